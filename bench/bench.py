@@ -6,12 +6,13 @@ one thread a reply stands behind those of all requests before it, so the last on
 workers.) Times are wall-clock milliseconds, the best of five runs; sizes are bytes. Beside each time stands that of a plain measure of the same
 bytes: `cat` through the same pipes, or one copy in memory.
 """
-import json
 import os
 import subprocess
 import sys
 import threading
 import time
+
+from messages import frame, notice, opened, request
 
 TOP = os.path.dirname(os.path.dirname(os.path.abspath(__file__)))
 PLAIN = os.path.join(TOP, "crates", "served_plainly")
@@ -28,24 +29,6 @@ def built(folder):
 
 ARGUMENTS = [it for it in sys.argv[1:] if not it.startswith("--")]
 PROGRAM = ARGUMENTS[0] if ARGUMENTS else built(PLAIN)
-
-
-def frame(message):
-    body = message if isinstance(message, bytes) else json.dumps(message).encode()
-    return b"Content-Length: %d\r\n\r\n%b" % (len(body), body)
-
-
-def request(number, method, **params):
-    return frame({"jsonrpc": "2.0", "id": number, "method": method, "params": params})
-
-
-def notice(method, **params):
-    return frame({"jsonrpc": "2.0", "method": method, "params": params})
-
-
-def opened(text, uri="file:///g"):
-    return notice("textDocument/didOpen",
-                  textDocument={"uri": uri, "languageId": "abnf", "version": 1, "text": text})
 
 
 INITIALIZE = request(0, "initialize", capabilities={})

@@ -5,7 +5,6 @@ The first part is the program threads.rt.txt: the same session with 1, 2 and 4 w
 each of which is as long as a board's lock is held for it. The second part drives out/abnf_ls, or the program that is the first argument: how
 long the findings of a keystroke in a small text take, alone and while hovers on 100,000 rules run on one worker to four.
 """
-import json
 import os
 import statistics
 import subprocess
@@ -13,22 +12,10 @@ import sys
 import time
 
 import scratch
+from messages import notice, opened, request
 
 PROGRAM = sys.argv[1] if len(sys.argv) > 1 else os.path.join(scratch.TOP, "out", "abnf_ls")
 RUNS = 5
-
-
-def frame(message):
-    body = json.dumps({"jsonrpc": "2.0", **message}).encode()
-    return b"Content-Length: %d\r\n\r\n%b" % (len(body), body)
-
-
-def notice(method, **params):
-    return frame({"method": method, "params": params})
-
-
-def opened(uri, text):
-    return notice("textDocument/didOpen", textDocument={"uri": uri, "languageId": "abnf", "version": 1, "text": text})
 
 
 def typed(uri, version):
@@ -39,7 +26,7 @@ def typed(uri, version):
 
 def hover(number, uri):
     params = {"textDocument": {"uri": uri}, "position": {"line": 0, "character": 0}}
-    return frame({"id": number, "method": "textDocument/hover", "params": params})
+    return request(number, "textDocument/hover", **params)
 
 
 def grammar(count):
@@ -79,8 +66,8 @@ class Server:
 def keystroke(hovers):
     """The milliseconds from a keystroke to its findings, while so many hovers run."""
     server = Server()
-    server.send(frame({"id": 0, "method": "initialize", "params": {"capabilities": {}}}))
-    server.send(opened("file:///large", grammar(100_000)) + opened("file:///small", grammar(100)))
+    server.send(request(0, "initialize", capabilities={}))
+    server.send(opened(grammar(100_000), "file:///large") + opened(grammar(100), "file:///small"))
     for _ in range(2):
         server.until(b"publishDiagnostics")
     server.send(b"".join(hover(number + 1, "file:///large") for number in range(hovers)))

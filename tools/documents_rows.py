@@ -130,13 +130,13 @@ PAGES = (
         "```antt\nis_so number = false\n```\n",
         ["docs/TRUST.md:1: no crate has the code 'is_so number = false'"],
     ),
-    (documents.knowledge_faults, "docs/ARCHITECTURE.md", f"{LOW}- **`high`**, open x: y. Must never know grammars, or blocks.\n", []),
-    (documents.knowledge_faults, "docs/ARCHITECTURE.md", f"{LOW}- **`high`**, open x: y. Must never know the sea (read), or JSON.\n", []),
-    (documents.knowledge_faults, "docs/ARCHITECTURE.md", f"{LOW}- **`high`**, open x: y. Must never know anything but `low`.\n", []),
+    (documents.knowledge_faults, "docs/ARCHITECTURE.md", f"{LOW}- **`high`** (`main.rt`): y. Never: grammars, or blocks.\n", []),
+    (documents.knowledge_faults, "docs/ARCHITECTURE.md", f"{LOW}- **`high`** (`main.rt`): y. Never: the sea (read), or JSON.\n", []),
+    (documents.knowledge_faults, "docs/ARCHITECTURE.md", f"{LOW}- **`high`** (`main.rt`): y. Never: anything but `low`.\n", []),
     (
         documents.knowledge_faults,
         "docs/ARCHITECTURE.md",
-        f"{LOW}- **`high`**, open x: y. Must never know how files are\n  read, or the sea.\n- **`high`**: z.\n",
+        f"{LOW}- **`high`** (`main.rt`): y. Never: how files are\n  read, or the sea.\n- **`high`**: z.\n",
         [
             "docs/ARCHITECTURE.md: high must never know how files are read, and its code names std::io",
             "docs/ARCHITECTURE.md: nothing enforces that high must never know the sea: `(read)` says so, or a word of KNOWS",
@@ -145,14 +145,20 @@ PAGES = (
     (
         documents.knowledge_faults,
         "docs/ARCHITECTURE.md",
-        f"{LOW}- **`high`**, open x: y. Must never know anything but `none`.\n",
+        f"{LOW}- **`high`** (`main.rt`): y. Never: anything but `none`.\n",
         ["docs/ARCHITECTURE.md: high uses low, which it must never know"],
     ),
     (
         documents.knowledge_faults,
         "docs/ARCHITECTURE.md",
-        f"{LOW}- **`high`**, open x: y. It never knows grammars.\n",
+        f"{LOW}- **`high`** (`main.rt`): y. It never knows grammars.\n",
         ["docs/ARCHITECTURE.md: nothing says what high must never know, or that it is of tests"],
+    ),
+    (
+        documents.knowledge_faults,
+        "docs/ARCHITECTURE.md",
+        f"{LOW}- **`high`** (`gone.rt`): y. Never: grammars.\n",
+        ["docs/ARCHITECTURE.md: high has no gone.rt to open first"],
     ),
     (
         documents.quote_faults,
@@ -175,7 +181,7 @@ LOOKED = (
     (documents.law_faults, documents.LAWS, "| a | `high` | `comes` |\n| b | `low` | clause `value` of `goes` |\n", 1),
     (documents.row_faults, documents.ROWS, "| `syntax`, `empty` | error |\n| a | error |\n", 2),
     (documents.quote_faults, documents.QUOTES, "```antt\nis_so number = nat_le 1 number\n```\n```sh\nls\n```\n", 1),
-    (documents.knowledge_faults, documents.KNOWLEDGE, "- **`high`**, open x: y. Must never know grammars.\n", 1),
+    (documents.knowledge_faults, documents.KNOWLEDGE, "- **`high`** (`main.rt`): y. Never: grammars.\n", 1),
     (documents.layout_faults, documents.PARAGRAPHS, "a\n\nb\nc\n", 2),
 )
 

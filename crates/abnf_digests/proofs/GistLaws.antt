@@ -1,15 +1,17 @@
 -- A gist yields something where its part does, and leads to the same rules and opaque parts.
-use Rattle.std.proofs.Common.{◌≡◌, ℕ, zero, suc, ◌≤◌, ◌<◌, ◌⊎◌, inl, inr, Bool, true, false, Option, Some, None, option_map, List, [], ◌∷◌, ◌++◌, length, map, refl, sym, ap, subst, ◌∙◌, arith}
-use Rattle.std.specs.Prelude.{◌↔◌, if◌then◌else◌, nat_le, slice_get, slice_index_or, Contains}
+use Rattle.std.proofs.Common.{◌≡◌, ℕ, zero, suc, ◌≤◌, ◌⊎◌, inl, inr, Bool, true, false, Option, Some, None, List, [], ◌∷◌, ◌++◌, map, refl, sym, ap, subst, ◌∙◌, arith}
+use Rattle.std.specs.Prelude.{◌↔◌, if◌then◌else◌, nat_le}
 use Rattle.std.proofs.lemmas.Bool.{le-leb, leb-true, le-ltb, ltb-false}
 use Rattle.std.proofs.lemmas.List.{map-append}
-use Rattle.std.proofs.lemmas.Option.{slice_get-map}
 use Rattle.abnf_token.specs.Folded.{lowercase}
 use Rattle.abnf_parts.specs.Part.{Part, Parts, quoted, series, span, seq, alt, rep, ref, opaque, end, next, subparts, all_subparts}
 use Rattle.abnf_parts.specs.Generates.{UpTo}
-use Rattle.abnf_parts.specs.Reach.{ReachesBy, ReachesOpaque}
-use Rattle.abnf_productive.specs.Yields.{Yields, EachYields, SomeYields, RuleYields}
-use Rattle.abnf_digests.specs.Gists.{something, is_above, nothing, repeated_gist, gist, gists, UsesRule, IsLike}
+use Rattle.abnf_parts.specs.Reach.{ReachesOpaque}
+use Rattle.abnf_lint.specs.Yields.{Yields, EachYields, SomeYields, RuleYields}
+use Rattle.abnf_lint.specs.Empty.{is_above}
+use Rattle.abnf_rename.proofs.MappedTrees as mapped
+use Rattle.abnf_rename.proofs.MappedTrees.{KeepsParts, get_back, get_there, uses_there, uses_back}
+use Rattle.abnf_digests.specs.Gists.{something, nothing, repeated_gist, gist, gists, IsLike}
 
 -- ---- what yields something
 
@@ -90,27 +92,6 @@ module _ (R S : ℕ → Type 0) (from : (q : ℕ) → S q → R q) where
 
 -- ---- what stands in a part
 
-module _ {A B : Type 0} (f : A → B) where
-  map_contains : (xs : List A) (x : A) (k : ℕ) → k < length xs → slice_index_or xs k x ≡ x → Contains (map f xs) (f x)
-  map_contains [] x k lt e = absurd (omega (arith, lt))
-  map_contains (y ∷ xs) x zero lt e = (0, omega arith, ap f e)
-  map_contains (y ∷ xs) x (suc k) lt e = let h = map_contains xs x k (omega arith) e in (suc h.0, omega (arith, h.1), h.2)
-
-  map_back : (xs : List A) (y : B) (k : ℕ) → k < length (map f xs) → slice_index_or (map f xs) k y ≡ y → (x : A) × Contains xs x × (f x ≡ y)
-  map_back [] y k lt e = absurd (omega (arith, lt))
-  map_back (x ∷ xs) y zero lt e = (x, (0, omega arith, refl), e)
-  map_back (x ∷ xs) y (suc k) lt e = let h = map_back xs y k (omega arith) e in (h.0, (suc h.1.0, omega (arith, h.1.1), h.1.2), h.2)
-
-  get_by : (o : Option A) (y : B) → option_map f o ≡ Some y → (x : A) × (o ≡ Some x) × (f x ≡ y)
-  get_by None y e = absurd (cc)
-  get_by (Some x) y e = (x, refl, cc)
-
-  pub get_back : (xs : List A) (k : ℕ) (y : B) → slice_get (map f xs) k ≡ Some y → (x : A) × (slice_get xs k ≡ Some x) × (f x ≡ y)
-  get_back xs k y e = get_by (slice_get xs k) y (sym (slice_get-map f xs k) ∙ e)
-
-  pub get_there : (xs : List A) (k : ℕ) (x : A) → slice_get xs k ≡ Some x → slice_get (map f xs) k ≡ Some (f x)
-  get_there xs k x e = slice_get-map f xs k ∙ ap (option_map f) e
-
 span_parts : (b : Bool) → subparts (if b then something else nothing) ≡ (if b then something else nothing) ∷ []
 span_parts true = refl
 span_parts false = refl
@@ -175,34 +156,20 @@ ref_back (rep least most p) name q e = absurd (repeated_not_ref (is_above least 
 ref_back (ref other rule) name q e = let same : rule ≡ Some q = cc (e) in (other, ap (ref other) same)
 ref_back opaque name q e = absurd (cc (e))
 
-has_to : (p root : Part) → Contains (subparts root) p → Contains (subparts (gist root)) (gist p)
-has_to p root c = subst (λ l. Contains l (gist p)) (sym (gist_parts root)) (map_contains gist (subparts root) p c.0 c.1 c.2)
-
-has_from : (p root : Part) → Contains (subparts (gist root)) p → (x : Part) × Contains (subparts root) x × (gist x ≡ p)
-has_from p root c =
-    let d : Contains (map gist (subparts root)) p = subst (λ l. Contains l p) (gist_parts root) c in
-    map_back gist (subparts root) p d.0 d.1 d.2
-
-opaque_to : (root : Part) → Contains (subparts root) opaque → Contains (subparts (gist root)) opaque
-opaque_to root c = has_to opaque root c
-
-opaque_from : (root : Part) → Contains (subparts (gist root)) opaque → Contains (subparts root) opaque
-opaque_from root c = let x = has_from opaque root c in subst (λ p. Contains (subparts root) p) (opaque_back x.0 x.2) x.1
-
-uses_to : (root : Part) (q : ℕ) → UsesRule root q → UsesRule (gist root) q
-uses_to root q u = (lowercase u.0, has_to (ref u.0 (Some q)) root u.1)
-
-uses_from : (root : Part) (q : ℕ) → UsesRule (gist root) q → UsesRule root q
-uses_from root q u =
-    let x = has_from (ref u.0 (Some q)) root u.1 in
-    let n = ref_back x.0 u.0 q x.2 in
-    (n.0, subst (λ p. Contains (subparts root) p) n.1 x.1)
+keeps_parts : KeepsParts gist
+keeps_parts = record {
+  inside = gist_parts;
+  opaque_to = refl;
+  opaque_from = opaque_back;
+  ref_to = λ name q. (lowercase name, refl);
+  ref_from = ref_back;
+}
 
 pub gists_alike : (rules : List Part) (p : Part) → IsLike rules p (gist p)
 gists_alike rules p = record {
   yields = λ k. (gist_yields (RuleYields rules k) (RuleYields rules k) (λ q y. y) p, yields_by_gist (RuleYields rules k) (RuleYields rules k) (λ q y. y) p);
-  has_opaque = (opaque_to p, opaque_from p);
-  uses = λ q. (uses_to p q, uses_from p q);
+  has_opaque = (mapped.opaque_there gist keeps_parts p, mapped.opaque_back gist keeps_parts p);
+  uses = λ q. (uses_there gist keeps_parts p q, uses_back gist keeps_parts p q);
 }
 
 -- ---- rules
@@ -219,20 +186,5 @@ module _ (rules : List Part) where
       let again : Yields (RuleYields (map gist rules) k) (gist b.0) = subst (λ p. Yields (RuleYields (map gist rules) k) p) (sym b.2) y.2 in
       (b.0, b.1, yields_by_gist (RuleYields rules k) (RuleYields (map gist rules) k) (rule_from k) b.0 again)
 
-  reach_to : (uses r : ℕ) → ReachesBy rules uses r → ReachesBy (map gist rules) uses r
-  reach_to zero r h = (gist h.0, get_there gist rules r h.0 h.1, opaque_to h.0 h.2)
-  reach_to (suc uses) r h =
-      let u = uses_to h.0 h.3 (h.2, h.4) in
-      (gist h.0, get_there gist rules r h.0 h.1, u.0, h.3, u.1, reach_to uses h.3 h.5)
-
-  reach_from : (uses r : ℕ) → ReachesBy (map gist rules) uses r → ReachesBy rules uses r
-  reach_from zero r h =
-      let b = get_back gist rules r h.0 h.1 in
-      (b.0, b.1, opaque_from b.0 (subst (λ p. Contains (subparts p) opaque) (sym b.2) h.2))
-  reach_from (suc uses) r h =
-      let b = get_back gist rules r h.0 h.1 in
-      let u = uses_from b.0 h.3 (h.2, subst (λ p. Contains (subparts p) (ref h.2 (Some h.3))) (sym b.2) h.4) in
-      (b.0, b.1, u.0, h.3, u.1, reach_from uses h.3 h.5)
-
   pub reaches : (r : ℕ) → ReachesOpaque rules r ↔ ReachesOpaque (map gist rules) r
-  reaches r = (λ h. (h.0, reach_to h.0 r h.1), λ h. (h.0, reach_from h.0 r h.1))
+  reaches r = mapped.reaches gist keeps_parts rules r

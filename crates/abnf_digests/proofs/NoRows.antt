@@ -32,8 +32,9 @@ use Rattle.abnf_lint.specs.Rows.{AnyBases, AnyDefines, HasHead, HasItem, HasNoFa
 use Rattle.abnf_lint.specs.Unproductive.{IsUnproductive}
 use Rattle.abnf_lint.proofs.FoundItems.{empty_range_is, empty_repeat_is, is_empty_of, is_turned_of}
 use Rattle.abnf_lint.proofs.Member.{filter_in, first_in, in_cons, in_filter, later_in, none_in}
+use Rattle.abnf_lint.specs.Empty.{is_empty_number}
 use Rattle.abnf_digests.specs.Digests.{Digest, head_digest, head_name_by, adds_by, used_names, digest_of}
-use Rattle.abnf_digests.specs.Quiet.{has_own_findings, is_empty_number}
+use Rattle.abnf_digests.specs.Quiet.{has_own_findings}
 use Rattle.abnf_digests.proofs.Heads.{adds_is, name_is}
 
 -- ---- members

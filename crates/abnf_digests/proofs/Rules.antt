@@ -9,8 +9,8 @@ use Rattle.abnf_parts.specs.Core.{CoreRule, core_name}
 use Rattle.abnf_names.specs.Said.{Block}
 use Rattle.abnf_names.specs.Rules.{defines, counted, defined, needed, names_of, said_alternatives, rule_tree, core_tree, rules_of}
 use Rattle.abnf_lint.specs.Unproductive.{IsUnproductive}
-use Rattle.abnf_productive.specs.Yields.{RuleYields}
-use Rattle.abnf_productive.proofs.Law.{rule_yields, string_of_rule}
+use Rattle.abnf_lint.specs.Yields.{RuleYields}
+use Rattle.abnf_lint.proofs.YieldLaw.{rule_yields, string_of_rule}
 use Rattle.abnf_digests.specs.Gists.{gist}
 use Rattle.abnf_digests.specs.Digests.{digest_of, defines_by, counted_by, said_with, rule_by, core_by, rules_by}
 use Rattle.abnf_digests.proofs.Heads.{defines_is, defined_is, filter_is, counted_is}

@@ -16,7 +16,8 @@ use Rattle.abnf_parts.specs.Names.{Name}
 use Rattle.abnf_parts.specs.Tree.{ElementLayer, parts, join, element_part, repetition_part, concatenation_part, tree_inside, alternatives}
 use Rattle.abnf_names.specs.Said.{Block}
 use Rattle.abnf_names.specs.Rules.{alternatives_said, said_alternatives}
-use Rattle.abnf_digests.specs.Gists.{something, is_above, nothing, repeated_gist, gist, gists, relinked, all_relinked}
+use Rattle.abnf_lint.specs.Empty.{is_above}
+use Rattle.abnf_digests.specs.Gists.{something, nothing, repeated_gist, gist, gists, relinked, all_relinked}
 use Rattle.abnf_digests.specs.Digests.{digest_of, no_number, said_with}
 
 -- ---- gists of rows
@@ -25,12 +26,12 @@ pub gists_map : (ps : List Part) → gists (parts ps) ≡ parts (map gist ps)
 gists_map [] = refl
 gists_map (p ∷ ps) = ap (λ qs. next (gist p) qs) (gists_map ps)
 
-seq_gist : (ps : List Part) → gist (join seq ps) ≡ join seq (map gist ps)
+pub seq_gist : (ps : List Part) → gist (join seq ps) ≡ join seq (map gist ps)
 seq_gist [] = refl
 seq_gist (p ∷ []) = refl
 seq_gist (p ∷ q ∷ ps) = ap seq (gists_map (p ∷ q ∷ ps))
 
-alt_gist : (ps : List Part) → gist (join alt ps) ≡ join alt (map gist ps)
+pub alt_gist : (ps : List Part) → gist (join alt ps) ≡ join alt (map gist ps)
 alt_gist [] = refl
 alt_gist (p ∷ []) = refl
 alt_gist (p ∷ q ∷ ps) = ap alt (gists_map (p ∷ q ∷ ps))

@@ -30,10 +30,11 @@ use Rattle.abnf_rename.specs.Rules.{text_and_role}
 use Rattle.abnf_rename.proofs.ItemShapes.{Shape, shape}
 use Rattle.abnf_rename.proofs.Rows.{TextLike, Alike, Agrees, derives_like}
 use Rattle.abnf_rename.proofs.Shapes.{shape_head, shape_places, places_by_shape}
+use Rattle.abnf_lint.specs.Empty.{is_empty_number}
 use Rattle.abnf_digests.specs.Gists.{gist}
 use Rattle.abnf_digests.specs.Digests.{head_digest, used_names, no_number, digest_of}
 use Rattle.abnf_digests.specs.SameLines.{AreSameLines, placeless, fault_kind}
-use Rattle.abnf_digests.specs.Quiet.{is_empty_number, has_own_findings}
+use Rattle.abnf_digests.specs.Quiet.{has_own_findings}
 use Rattle.abnf_digests.proofs.SameItems.{same_shapes}
 use Rattle.abnf_digests.proofs.SameFaults.{same_fault}
 

@@ -1,10 +1,10 @@
 -- What is left of a tree where it only matters whether it generates anything and which rules it leads to.
-use Rattle.std.specs.Prelude.{◌↔◌, ℕ, zero, suc, nat_le, nat_lt, Bool, true, false, Option, Some, None, List, [], Contains, if◌then◌else◌}
-use Rattle.std.specs.Option.{option_map_or}
+use Rattle.std.specs.Prelude.{◌↔◌, ℕ, zero, suc, nat_le, Bool, true, false, Option, Some, None, List, [], Contains, if◌then◌else◌}
 use Rattle.abnf_token.specs.Folded.{lowercase}
 use Rattle.abnf_parts.specs.Names.{Name}
 use Rattle.abnf_parts.specs.Part.{Part, Parts, quoted, series, span, seq, alt, rep, ref, opaque, end, next, subparts}
-use Rattle.abnf_productive.specs.Yields.{Yields, RuleYields}
+use Rattle.abnf_lint.specs.Empty.{is_above}
+use Rattle.abnf_lint.specs.Yields.{Yields, RuleYields}
 
 -- what always generates something
 abbrev pub something : Part
@@ -13,10 +13,6 @@ something = series []
 -- what never generates anything
 abbrev pub nothing : Part
 nothing = alt end
-
--- the minimum is above the maximum
-abbrev pub is_above : ℕ → Option ℕ → Bool
-is_above least most = option_map_or (λ m. nat_lt m least) most false
 
 -- The gist of a repetition, by whether its minimum is above its maximum, and by its minimum: its body must generate
 -- something, or need not; or nothing helps.

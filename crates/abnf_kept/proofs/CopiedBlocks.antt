@@ -29,7 +29,8 @@ use Rattle.abnf_kept.proofs.FindLaws as kept
 use Rattle.abnf_kept.proofs.FollowedBlocks.{within_join}
 use Rattle.abnf_kept.proofs.KeptLists.{kept_at, kept_halves, kept_join, kept_length, within_length}
 use Rattle.abnf_kept.proofs.ReadLaws.{HasRead}
-use Rattle.abnf_kept.proofs.SameBlocks.{said_by, seen}
+use Rattle.abnf_syntax.proofs.Exist.{seen}
+use Rattle.abnf_kept.proofs.SameBlocks.{said_by}
 
 -- ---- a block that says the same
 

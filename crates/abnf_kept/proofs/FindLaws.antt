@@ -21,13 +21,14 @@ use Rattle.abnf_names.specs.Said.{AreSaid, AreWithin, Block, IsWithin}
 use Rattle.abnf_names.specs.Shown.{fault_shown}
 use Rattle.abnf_names.proofs.OneGrammar.{Plain, same_block}
 use Rattle.abnf_lint.specs.declared.finding.Finding.{Finding}
+use Rattle.abnf_lint.specs.Found.{body_found, fault_found, item_found, items_found}
 use Rattle.abnf_lint.specs.Rows.{AreRows}
 use Rattle.abnf_digests.specs.Digests.{Digest, digest_of}
 use Rattle.abnf_outcome.specs.declared.digest.BlockDigest.{BlockDigest}
 use Rattle.abnf_outcome.specs.declared.found_in.BlockTold.{BlockTold}
 use Rattle.abnf_outcome.specs.declared.outcome.Outcome.{Outcome}
 use Rattle.abnf_outcome.specs.ByTable.{all_told}
-use Rattle.abnf_outcome.specs.Found.{AllAreTold, all_found, body_found, fault_found, found_at_head, found_by, item_found, items_found}
+use Rattle.abnf_outcome.specs.Found.{AllAreTold, all_found, found_at_head, found_by}
 use Rattle.abnf_outcome.specs.KeptBlocks.{AreKept, IsKeptOf}
 use Rattle.abnf_outcome.specs.Outcomes.{FindsAt, IsOutcome, IsQuiet, strange_in, told_in}
 use Rattle.abnf_outcome.specs.Stored.{Stored}

@@ -1,5 +1,5 @@
 -- Blocks of lines that another text has too are blocks there.
-use Rattle.std.proofs.Common.{◌≡◌, ◌∙◌, ℕ, suc, ◌+◌, ◌<◌, ◌⊎◌, inl, inr, Bool, true, false, List, [], ◌∷◌, Option, Some, None, Result, Ok, Err, drop, length, map, refl, ap, subst, arith}
+use Rattle.std.proofs.Common.{◌≡◌, ◌∙◌, ℕ, suc, ◌+◌, ◌<◌, ◌⊎◌, inl, inr, List, [], ◌∷◌, Result, Ok, Err, drop, length, map, refl, ap, subst, arith}
 use Rattle.std.specs.Prelude.{slice_index_or}
 use Rattle.std.specs.List.{flat_map}
 use Rattle.abnf_token.specs.declared.token.Token.{Token}
@@ -7,41 +7,18 @@ use Rattle.abnf_token.specs.Classes.{Text}
 use Rattle.abnf_token.specs.Tokens.{TokensOf}
 use Rattle.abnf_syntax.specs.declared.item.Item.{Item}
 use Rattle.abnf_syntax.specs.Blocks.{AreBlocks, AreBlocksUpTo, IsBlock}
-use Rattle.abnf_syntax.specs.Items.{AreItems, AreTokens, items_behind, items_of, view, with_line_end}
-use Rattle.abnf_syntax.specs.Kinds.{is_item}
+use Rattle.abnf_syntax.specs.Items.{AreItems, AreTokens, with_line_end}
 use Rattle.abnf_syntax.specs.declared.fault.SyntaxFault.{SyntaxFault}
 use Rattle.abnf_syntax.specs.declared.tree.Rule.{Rule}
 use Rattle.abnf_syntax.specs.Faults.{Faults}
 use Rattle.abnf_syntax.specs.Grammar.{Derives}
 use Rattle.abnf_syntax.proofs.ContentLaws.{some_items}
+use Rattle.abnf_syntax.proofs.Exist.{seen}
 use Rattle.abnf_syntax.proofs.Whole.{some_answer}
 use Rattle.abnf_names.specs.Said.{AreWithin, Block, BlockSays, IsWithin}
 use Rattle.abnf_digests.specs.SameLines.{AreSameLines}
 use Rattle.abnf_digests.proofs.Parted.{moved_lines}
 use Rattle.abnf_digests.proofs.Seams.{AreMoved}
-
--- ---- items of tokens
-
-abbrev pub Seen : List (Token × Bool) → Type 0
-Seen views = (items : List Item) × (map view items ≡ views)
-
-seen_behind : (apart : Bool) (ts : List (Option Token)) → Seen (items_behind apart ts)
-seen_behind apart [] = ([], refl)
-seen_behind apart (None ∷ ts) = seen_behind true ts
-seen_behind apart (Some t ∷ ts) = by (is_item t.kind) refl (seen_behind false ts) (seen_behind true ts)
-  where
-    by : (b : Bool) → is_item t.kind ≡ b → Seen (items_behind false ts) → Seen (items_behind true ts) → Seen (items_behind apart (Some t ∷ ts))
-    by true e kept past = (record { token = t; apart = apart; solid = e } ∷ kept.0, rw e (ap (λ l. (t, apart) ∷ l) kept.1))
-    by false e kept past = (past.0, rw e past.1)
-
-pub seen : (ts : List (Option Token)) → Seen (items_of ts)
-seen [] = ([], refl)
-seen (None ∷ ts) = seen ts
-seen (Some t ∷ ts) = by (is_item t.kind) refl (seen_behind false ts) (seen ts)
-  where
-    by : (b : Bool) → is_item t.kind ≡ b → Seen (items_behind false ts) → Seen (items_of ts) → Seen (items_of (Some t ∷ ts))
-    by true e kept past = (record { token = t; apart = false; solid = e } ∷ kept.0, rw e (ap (λ l. (t, false) ∷ l) kept.1))
-    by false e kept past = (past.0, rw e past.1)
 
 -- ---- what items say
 

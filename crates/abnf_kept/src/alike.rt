@@ -9,6 +9,13 @@ use crate::difference::Difference;
 use crate::walk::say_the_same;
 use abnf_syntax::Sheet;
 
+/// Some lines of a text: the first of them, and the line behind them.
+#[derive(Clone, Copy)]
+pub struct Lines {
+    pub from: usize,
+    pub to: usize,
+}
+
 /// The lines of a part among some lines: the first of them, and the line behind them.
 pub fn among(from: usize, to: usize, front: usize, back: usize) -> (usize, usize)
     requires { from ≤ to }
@@ -38,28 +45,20 @@ impl Difference {
         to - last == end - last_there && (last == to || last - self.old == last_there - self.new)
     }
 
-    /// Whether the lines of our text from one up to another say the same of blocks as some lines of the other text, where the texts differ in
-    /// this part alone. Only the part's lines are looked at: others are the same in both if they stand at places that belong together.
-    pub fn say_the_same(
-        &self,
-        ours: &Sheet,
-        from: usize,
-        to: usize,
-        theirs: &Sheet,
-        there: usize,
-        end: usize,
-    ) -> bool
+    /// Whether some lines of our text say the same of blocks as some lines of the other text, where the texts differ in this part alone.
+    /// Only the part's lines are looked at: others are the same in both if they stand at places that belong together.
+    pub fn say_the_same(&self, ours: &Sheet, here: Lines, theirs: &Sheet, there: Lines) -> bool
         requires part { IsPart ours.now theirs.now self.now }
         requires base { base_indent ours.now ≡ base_indent theirs.now }
         requires tokens { HasTokens ours.now }
-        requires ours { from ≤ to }
-        requires theirs { there ≤ end }
-        ensures { IsTrue result → spec.SayTheSame ours.now from to theirs.now there end }
+        requires ours { here.from ≤ here.to }
+        requires theirs { there.from ≤ there.to }
+        ensures { IsTrue result → spec.SayTheSame ours.now here.from here.to theirs.now there.from there.to }
     {
-        let (first, last) = among(from, to, self.front, self.old);
-        let (first_there, last_there) = among(there, end, self.front, self.new);
-        begin_alike(from, first, there, first_there)
-            && self.end_alike(last, to, last_there, end)
+        let (first, last) = among(here.from, here.to, self.front, self.old);
+        let (first_there, last_there) = among(there.from, there.to, self.front, self.new);
+        begin_alike(here.from, first, there.from, first_there)
+            && self.end_alike(last, here.to, last_there, there.to)
             && say_the_same(ours, first, last, theirs, first_there, last_there)
     }
 }

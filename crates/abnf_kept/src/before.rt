@@ -4,7 +4,7 @@ ghost use Rattle.std.specs.Prelude.{◌≡◌, ◌≤◌, ◌<◌, ◌⊎◌, If
 ghost use Rattle.abnf_syntax.specs.Blocks.{IsNextBlock};
 ghost use Rattle.abnf_kept.specs.own.Reads as spec;
 
-use crate::alike::among;
+use crate::alike::{Lines, among};
 use crate::difference::Difference;
 use abnf_outcome::BlockDigest;
 use abnf_syntax::Sheet;
@@ -47,11 +47,15 @@ impl<'k, 's> Before<'k, 's> {
                 && block.first <= block.behind
                 && self.lines.say_the_same(
                     self.sheet,
-                    block.first as usize,
-                    block.behind as usize,
+                    Lines {
+                        from: block.first as usize,
+                        to: block.behind as usize,
+                    },
                     sheet,
-                    first,
-                    end,
+                    Lines {
+                        from: first,
+                        to: end,
+                    },
                 )
             {
                 return Some(at);

@@ -6,6 +6,7 @@ ghost use Rattle.abnf_syntax.specs.Blocks.{line_texts, IsTop};
 ghost use Rattle.abnf_lint.specs.Rows.{AreRows};
 ghost use Rattle.abnf_outcome.specs.KeptBlocks.{IsKeptOf};
 
+use crate::alike::Lines;
 use crate::blocks::KeptBlocks;
 use crate::difference::Change;
 use abnf_lint::Finding;
@@ -106,9 +107,18 @@ impl Diagnosed {
         };
         let part = change.blocks;
         let moves = part.is_clean(findings.as_slice())
-            && change
-                .lines
-                .say_the_same(&ours, part.front, part.old, &theirs, part.front, part.new);
+            && change.lines.say_the_same(
+                &ours,
+                Lines {
+                    from: part.front,
+                    to: part.old,
+                },
+                &theirs,
+                Lines {
+                    from: part.front,
+                    to: part.new,
+                },
+            );
         let blocks = blocks.followed(alloc, &ours, &theirs, &change)?;
         if moves {
             return Ok(Diagnosed {

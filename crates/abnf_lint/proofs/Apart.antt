@@ -19,7 +19,7 @@ use Rattle.abnf_syntax.specs.Blocks.{AreBlocks}
 use Rattle.abnf_syntax.specs.Grammar.{kind_of}
 use Rattle.abnf_syntax.specs.Faults.{place_of}
 use Rattle.abnf_syntax.specs.Heads.{head_of}
-use Rattle.abnf_parts.specs.Leaf.{repeat_limits, ends_of, number_part}
+use Rattle.abnf_parts.specs.Leaf.{repeat_limits}
 use Rattle.abnf_parts.specs.Names.{Name, rule_number}
 use Rattle.abnf_names.specs.Said.{AreWithin, Block, BlockSays, name_of}
 use Rattle.abnf_names.specs.Places.{Named, is_touched, use_after}
@@ -31,7 +31,10 @@ use Rattle.abnf_lint.specs.declared.finding.Code.{Code}
 use Rattle.abnf_lint.specs.declared.finding.Code.TheVariants as c
 use Rattle.abnf_lint.specs.declared.finding.Finding.{Finding}
 use Rattle.abnf_lint.specs.Order.{code_row}
-use Rattle.abnf_lint.specs.own.Findings.{based, block_findings, body_findings, fault_findings, findings_after, found_if, has_name, head_findings, is_empty_range, is_empty_repeat, is_marked, item_findings, items_findings, number_findings, said_findings, use_findings}
+use Rattle.abnf_lint.specs.own.Findings.{based, block_findings, findings_after, has_name, head_told, is_marked}
+use Rattle.abnf_lint.specs.Found.{body_found, fault_found, finding_if, head_found, is_none_of, item_found, items_found, number_found, said_found, use_found}
+use Rattle.abnf_lint.specs.Empty.{is_empty_number}
+use Rattle.abnf_lint.proofs.AllFound.{all_by, all_joined, if_all}
 use Rattle.abnf_lint.proofs.FaultLines.{FaultWithin, IsAtLine, ItemWithin, fault_within}
 
 -- they differ in line, start or row
@@ -45,24 +48,12 @@ AllDiffer (f ∷ fs) = AllByRecursion (Differ f) fs × AllDiffer fs
 
 -- ---- lists
 
-all_joined : (P : Finding → Type 0) (xs ys : List Finding) → AllByRecursion P xs → AllByRecursion P ys → AllByRecursion P (xs ++ ys)
-all_joined P [] ys h k = k
-all_joined P (x ∷ xs) ys h k = (h.0, all_joined P xs ys h.1 k)
-
-all_by : (P Q : Finding → Type 0) (xs : List Finding) → ((x : Finding) → P x → Q x) → AllByRecursion P xs → AllByRecursion Q xs
-all_by P Q [] g h = tt
-all_by P Q (x ∷ xs) g h = (g x h.0, all_by P Q xs g h.1)
-
 joined : (P Q : Finding → Type 0) (xs ys : List Finding) → ((f g : Finding) → P f → Q g → Differ f g) → AllByRecursion P xs → AllByRecursion Q ys → AllDiffer xs → AllDiffer ys → AllDiffer (xs ++ ys)
 joined P Q [] ys apart h k a b = b
 joined P Q (x ∷ xs) ys apart h k a b =
     (all_joined (Differ x) xs ys a.0 (all_by Q (Differ x) ys (λ g q. apart x g h.0 q) k), joined P Q xs ys apart h.1 k a.1 b)
 
-if_all : (P : Finding → Type 0) (b : Bool) (code : Code) (place : Place) (name : List ℕ) → P (record { place = place; code = code; name = name }) → AllByRecursion P (found_if b code place name)
-if_all P true code place name h = (h, tt)
-if_all P false code place name h = tt
-
-if_differ : (b : Bool) (code : Code) (place : Place) (name : List ℕ) → AllDiffer (found_if b code place name)
+if_differ : (b : Bool) (code : Code) (place : Place) (name : List ℕ) → AllDiffer (finding_if b code place name)
 if_differ true code place name = (tt, tt)
 if_differ false code place name = tt
 
@@ -91,10 +82,10 @@ use_by P true d n g h = tt
 use_by P false true n g h = all_joined P (g n) [] h tt
 use_by P false false n g h = tt
 
-use_all : (names : List Name) (before : Kind) (item : Item) → AllByRecursion (IsUseAt (item_point item)) (flat_map (use_findings names) (use_after before item))
+use_all : (names : List Name) (before : Kind) (item : Item) → AllByRecursion (IsUseAt (item_point item)) (flat_map (use_found (is_none_of names)) (use_after before item))
 use_all names before item =
     let n : Named = record { text = item.token.text.now; place = place_of item.token; defines = false } in
-    use_by (IsUseAt (item_point item)) (is_touched before item) (is_name (kind_of item)) n (use_findings names)
+    use_by (IsUseAt (item_point item)) (is_touched before item) (is_name (kind_of item)) n (use_found (is_none_of names))
     (if_all (IsUseAt (item_point item)) (not (is_some (rule_number names (lowercase n.text)))) c.Undefined n.place n.text (refl, refl, refl))
 
 use_differ_by : (b d : Bool) (n : Named) (g : Named → List Finding) → AllDiffer (g n) → AllDiffer (flat_map g (if b then [] else (if d then n ∷ [] else [])))
@@ -106,25 +97,25 @@ use_differ_by false true n g h = joined (λ x. Unit {0}) (λ x. ⊥) (g n) [] (�
     all_units (x ∷ xs) = (tt, all_units xs)
 use_differ_by false false n g h = tt
 
-use_differ : (names : List Name) (before : Kind) (item : Item) → AllDiffer (flat_map (use_findings names) (use_after before item))
+use_differ : (names : List Name) (before : Kind) (item : Item) → AllDiffer (flat_map (use_found (is_none_of names)) (use_after before item))
 use_differ names before item =
     let n : Named = record { text = item.token.text.now; place = place_of item.token; defines = false } in
-    use_differ_by (is_touched before item) (is_name (kind_of item)) n (use_findings names)
+    use_differ_by (is_touched before item) (is_name (kind_of item)) n (use_found (is_none_of names))
     (if_differ (not (is_some (rule_number names (lowercase n.text)))) c.Undefined n.place n.text)
 
-number_all : (kind : Kind) (place : Place) (text : List ℕ) → AllByRecursion (IsNumberAt (place.line, place.start)) (number_findings kind place text)
-number_all Repeat place text = if_all (IsNumberAt (place.line, place.start)) (is_empty_repeat (repeat_limits text)) c.EmptyRepeat place [] (refl, refl, omega arith, omega arith)
-number_all Number place text = if_all (IsNumberAt (place.line, place.start)) (is_empty_range (ends_of (number_part text))) c.EmptyRange place [] (refl, refl, omega arith, omega arith)
+number_all : (kind : Kind) (place : Place) (text : List ℕ) → AllByRecursion (IsNumberAt (place.line, place.start)) (number_found kind place text)
+number_all Repeat place text = if_all (IsNumberAt (place.line, place.start)) (is_empty_number Repeat text) c.EmptyRepeat place [] (refl, refl, omega arith, omega arith)
+number_all Number place text = if_all (IsNumberAt (place.line, place.start)) (is_empty_number Number text) c.EmptyRange place [] (refl, refl, omega arith, omega arith)
 number_all _ place text = tt
 
-number_differ : (kind : Kind) (place : Place) (text : List ℕ) → AllDiffer (number_findings kind place text)
-number_differ Repeat place text = if_differ (is_empty_repeat (repeat_limits text)) c.EmptyRepeat place []
-number_differ Number place text = if_differ (is_empty_range (ends_of (number_part text))) c.EmptyRange place []
+number_differ : (kind : Kind) (place : Place) (text : List ℕ) → AllDiffer (number_found kind place text)
+number_differ Repeat place text = if_differ (is_empty_number Repeat text) c.EmptyRepeat place []
+number_differ Number place text = if_differ (is_empty_number Number text) c.EmptyRange place []
 number_differ _ place text = tt
 
-item_differ : (names : List Name) (before : Kind) (item : Item) → AllDiffer (item_findings names before item)
+item_differ : (names : List Name) (before : Kind) (item : Item) → AllDiffer (item_found (is_none_of names) before item)
 item_differ names before item =
-    joined (IsUseAt (item_point item)) (IsNumberAt (item_point item)) (flat_map (use_findings names) (use_after before item)) (number_findings (kind_of item) (place_of item.token) item.token.text.now)
+    joined (IsUseAt (item_point item)) (IsNumberAt (item_point item)) (flat_map (use_found (is_none_of names)) (use_after before item)) (number_found (kind_of item) (place_of item.token) item.token.text.now)
     (λ g h a b line start same. omega (arith, a.2, b.2, same))
     (use_all names before item) (number_all (kind_of item) (place_of item.token) item.token.text.now)
     (use_differ names before item) (number_differ (kind_of item) (place_of item.token) item.token.text.now)
@@ -133,10 +124,10 @@ item_differ names before item =
 abbrev IsAt : Point → Finding → Type 0
 IsAt p f = (f.place.line ≡ p.0) × (f.place.start ≡ p.1) × IsSaid f
 
-item_all : (names : List Name) (before : Kind) (item : Item) → AllByRecursion (IsAt (item_point item)) (item_findings names before item)
+item_all : (names : List Name) (before : Kind) (item : Item) → AllByRecursion (IsAt (item_point item)) (item_found (is_none_of names) before item)
 item_all names before item =
-    let uses = flat_map (use_findings names) (use_after before item) in
-    let numbers = number_findings (kind_of item) (place_of item.token) item.token.text.now in
+    let uses = flat_map (use_found (is_none_of names)) (use_after before item) in
+    let numbers = number_found (kind_of item) (place_of item.token) item.token.text.now in
     all_joined (IsAt (item_point item)) uses numbers
     (all_by (IsUseAt (item_point item)) (IsAt (item_point item)) uses (λ g h. (h.0, h.1, inl (omega (arith, h.2)))) (use_all names before item))
     (all_by (IsNumberAt (item_point item)) (IsAt (item_point item)) numbers (λ g h. (h.0, h.1, inr (h.2, h.3))) (number_all (kind_of item) (place_of item.token) item.token.text.now))
@@ -164,12 +155,12 @@ past x q g h at b line start same = elim b.0 [
 ]
 
 items_differ : (names : List Name) (before : Kind) (p q : Point) (items : List Item) → Run p (map item_point items) q →
-    AllDiffer (items_findings names before items) × AllByRecursion (IsBetween p q) (items_findings names before items)
+    AllDiffer (items_found (is_none_of names) before items) × AllByRecursion (IsBetween p q) (items_found (is_none_of names) before items)
 items_differ names before p q [] h = (tt, tt)
 items_differ names before p q (item ∷ items) h =
     let x : Point = item_point item in
-    let here = item_findings names before item in
-    let rest = items_findings names (kind_of item) items in
+    let here = item_found (is_none_of names) before item in
+    let rest = items_found (is_none_of names) (kind_of item) items in
     let more = items_differ names (kind_of item) (behind x) q items h.1 in
     let ends : Ahead (behind x) q = run_ahead (behind x) q (map item_point items) h.1 in (
       joined (IsAt x) (IsBetween (behind x) q) here rest (past x q) (item_all names before item) more.1 (item_differ names before item) more.0,
@@ -178,13 +169,13 @@ items_differ names before p q (item ∷ items) h =
           (all_by (IsBetween (behind x) q) (IsBetween p q) rest (λ g b. (ahead_trans p (behind x) (point_of g) (ahead_trans p x (behind x) h.0 (ahead_behind x)) b.0, b.1, b.2)) more.1),
     )
 
-body_differ : (names : List Name) (p q : Point) (items : List Item) → Run p (map item_point items) q → AllDiffer (body_findings names items) × AllByRecursion (IsBetween p q) (body_findings names items)
+body_differ : (names : List Name) (p q : Point) (items : List Item) → Run p (map item_point items) q → AllDiffer (body_found (is_none_of names) items) × AllByRecursion (IsBetween p q) (body_found (is_none_of names) items)
 body_differ names p q [] h = (tt, tt)
 body_differ names p q (item ∷ items) h =
     let x : Point = item_point item in
     let more = items_differ names (kind_of item) (behind x) q items h.1 in (
       more.0,
-      all_by (IsBetween (behind x) q) (IsBetween p q) (items_findings names (kind_of item) items)
+      all_by (IsBetween (behind x) q) (IsBetween p q) (items_found (is_none_of names) (kind_of item) items)
           (λ g b. (ahead_trans p (behind x) (point_of g) (ahead_trans p x (behind x) h.0 (ahead_behind x)) b.0, b.1, b.2)) more.1,
     )
 
@@ -220,7 +211,7 @@ items_within low high p (item ∷ items) a h =
       items_within low high (behind x) items (ahead_trans (low, 0) x (behind x) there (ahead_behind x)) h.1,
     )
 
-fault_differ : (fault : SyntaxFault) → AllDiffer (fault_findings fault)
+fault_differ : (fault : SyntaxFault) → AllDiffer (fault_found fault)
 fault_differ (f.NoName p) = (tt, tt)
 fault_differ (f.NoDefinedAs p) = (tt, tt)
 fault_differ (f.BadToken p) = (tt, tt)
@@ -231,7 +222,7 @@ fault_differ (f.NumberTooLarge p) = (tt, tt)
 fault_differ (f.TooDeep p) = (tt, tt)
 fault_differ f.Memory = tt
 
-fault_all : (low high : ℕ) (fault : SyntaxFault) → FaultWithin low high fault → AllByRecursion (SaidAt low high) (fault_findings fault)
+fault_all : (low high : ℕ) (fault : SyntaxFault) → FaultWithin low high fault → AllByRecursion (SaidAt low high) (fault_found fault)
 fault_all low high (f.NoName p) h = ((h, inl (omega arith)), tt)
 fault_all low high (f.NoDefinedAs p) h = ((h, inl (omega arith)), tt)
 fault_all low high (f.BadToken p) h = ((h, inl (omega arith)), tt)
@@ -243,24 +234,24 @@ fault_all low high (f.TooDeep p) h = ((h, inl (omega arith)), tt)
 fault_all low high f.Memory h = tt
 
 said_differ : (names : List Name) (low high : ℕ) (items : List Item) (said : Result Rule SyntaxFault) → Run (low, 0) (map item_point items) (high, 0) → BlockSays items said →
-    (let found = option_map_or fault_findings (fault_shown said) (body_findings names items) in AllDiffer found × AllByRecursion (SaidAt low high) found)
+    (let found = said_found (is_none_of names) items (fault_shown said) in AllDiffer found × AllByRecursion (SaidAt low high) found)
 said_differ names low high items (Ok rule) run says =
     let both = body_differ names (low, 0) (high, 0) items run in
-    (both.0, all_by (IsBetween (low, 0) (high, 0)) (SaidAt low high) (body_findings names items) (λ g b. (lines_between low high (point_of g) b.0 b.1, b.2)) both.1)
+    (both.0, all_by (IsBetween (low, 0) (high, 0)) (SaidAt low high) (body_found (is_none_of names) items) (λ g b. (lines_between low high (point_of g) b.0 b.1, b.2)) both.1)
 said_differ names low high items (Err fault) run says =
     (fault_differ fault, fault_all low high fault (fault_within low high items fault (items_within low high (low, 0) items (inr (refl, omega arith)) run) says))
 
 heads_differ : (marks : List Bool) (names heads bases : List Name) (low high : ℕ) (head : Head) → IsAtLine low high head.name.line →
-    AllDiffer (head_findings marks names heads bases head) × AllByRecursion (HeadAt low high) (head_findings marks names heads bases head)
+    AllDiffer (head_found (head_told marks names heads bases head) head) × AllByRecursion (HeadAt low high) (head_found (head_told marks names heads bases head) head)
 heads_differ marks names heads bases low high head at =
     let name = name_of head in
     let place = place_of head.name in
     let b1 = not head.adds && has_name bases name in
     let b2 = head.adds && not (has_name bases name) in
     let b3 = not (has_name heads name) && is_marked marks names name in
-    let xs = found_if b1 c.Duplicate place head.name.text.now in
-    let ys = found_if b2 c.NoBase place head.name.text.now in
-    let zs = found_if b3 c.Unproductive place head.name.text.now in
+    let xs = finding_if b1 c.Duplicate place head.name.text.now in
+    let ys = finding_if b2 c.NoBase place head.name.text.now in
+    let zs = finding_if b3 c.Unproductive place head.name.text.now in
     let xs_row : AllByRecursion (λ g. code_row g.code ≡ 5) xs = if_all (λ g. code_row g.code ≡ 5) b1 c.Duplicate place head.name.text.now refl in
     let ys_row : AllByRecursion (λ g. code_row g.code ≡ 6) ys = if_all (λ g. code_row g.code ≡ 6) b2 c.NoBase place head.name.text.now refl in
     let zs_row : AllByRecursion (λ g. code_row g.code ≡ 9) zs = if_all (λ g. code_row g.code ≡ 9) b3 c.Unproductive place head.name.text.now refl in
@@ -285,12 +276,12 @@ head_within low high (first ∷ second ∷ items) head all is = by (is_name (kin
     by false e = absurd (none-some head e)
 
 head_differ : (marks : List Bool) (names heads bases : List Name) (low high : ℕ) (items : List Item) (o : Option Head) → AllByRecursion (ItemWithin low high) items → head_of items ≡ o →
-    (let found = option_map_or (head_findings marks names heads bases) o [] in AllDiffer found × AllByRecursion (HeadAt low high) found)
+    (let found = option_map_or (λ head. head_found (head_told marks names heads bases head) head) o [] in AllDiffer found × AllByRecursion (HeadAt low high) found)
 head_differ marks names heads bases low high items None all is = (tt, tt)
 head_differ marks names heads bases low high items (Some head) all is = heads_differ marks names heads bases low high head (head_within low high items head all is)
 
-said_or_head : (low high : ℕ) (g h : Finding) → SaidAt low high g → HeadAt low high h → Differ g h
-said_or_head low high g h a b line start same = elim a.1 [
+head_or_said : (low high : ℕ) (g h : Finding) → HeadAt low high g → SaidAt low high h → Differ g h
+head_or_said low high g h b a line start same = elim a.1 [
   | inl x ↦ elim b.1 [ inl y ↦ omega (arith, x, y, same) | inr z ↦ elim z [ inl y ↦ omega (arith, x, y, same) | inr y ↦ omega (arith, x, y, same) ] ]
   | inr x ↦ elim b.1 [ inl y ↦ omega (arith, x.0, x.1, y, same) | inr z ↦ elim z [ inl y ↦ omega (arith, x.0, x.1, y, same) | inr y ↦ omega (arith, x.0, x.1, y, same) ] ]
 ]
@@ -301,10 +292,10 @@ block_differ marks names heads bases low high block run says =
     let items_in = items_within low high (low, 0) block.items (inr (refl, omega arith)) run in
     let said = said_differ names low high block.items block.said run says in
     let head = head_differ marks names heads bases low high block.items (head_of block.items) items_in refl in
-    let xs = said_findings names (excerpt_of block) in
-    let ys = option_map_or (head_findings marks names heads bases) (head_of block.items) [] in (
-      joined (SaidAt low high) (HeadAt low high) xs ys (said_or_head low high) said.1 head.1 said.0 head.0,
-      all_joined (At low high) xs ys (all_by (SaidAt low high) (At low high) xs (λ g h. h.0) said.1) (all_by (HeadAt low high) (At low high) ys (λ g h. h.0) head.1),
+    let xs = option_map_or (λ head. head_found (head_told marks names heads bases head) head) (head_of block.items) [] in
+    let ys = said_found (is_none_of names) block.items (fault_shown block.said) in (
+      joined (HeadAt low high) (SaidAt low high) xs ys (head_or_said low high) head.1 said.1 head.0 said.0,
+      all_joined (At low high) xs ys (all_by (HeadAt low high) (At low high) xs (λ g h. h.0) head.1) (all_by (SaidAt low high) (At low high) ys (λ g h. h.0) said.1),
     )
 
 -- from this line on

@@ -2,11 +2,10 @@
 use Rattle.std.proofs.Common.{◌≡◌, ◌∙◌, ℕ, ◌<◌, ◌≤◌, ◌+◌, suc, Bool, true, false, List, [], ◌∷◌, length, refl, sym, ap, subst, arith, get_or, inl, inr}
 use Rattle.std.specs.Prelude.{Contains, not, ◌&&◌, filter, if◌then◌else◌}
 use Rattle.std.specs.Cmp.{IsStrictWeakOrder}
-use Rattle.std.specs.Ordering.{is_lt, nat_cmp}
-use Rattle.std.specs.declared.cmp.Ordering.TheVariants.{Less, Equal}
+use Rattle.std.specs.Ordering.{is_lt}
 use Rattle.std.specs.List.{AllByRecursion}
 use Rattle.std.specs.List.Sorted.{IsSortedBy, ties}
-use Rattle.std.proofs.lemmas.Bool.{cases_order, lt-ltb, le-ltb, eq-eqb}
+use Rattle.std.proofs.lemmas.Bool.{cases_order}
 use Rattle.std.proofs.lemmas.List.Sorted.{ranks_by, sorted_far}
 use Rattle.abnf_syntax.specs.Blocks.{line_texts}
 use Rattle.abnf_names.specs.Said.{AreSaid, Block}
@@ -18,26 +17,12 @@ use Rattle.abnf_lint.specs.Rows.{AreRows}
 use Rattle.abnf_lint.specs.Unproductive.{AreUnproductive}
 use Rattle.abnf_lint.proofs.Apart.{AllDiffer, Differ, blocks_differ}
 use Rattle.abnf_lint.proofs.Exist.{some_order}
+use Rattle.abnf_lint.proofs.KeyOrder.{by_line, by_row, by_start}
 use Rattle.abnf_lint.proofs.Member.{first_in, in_cons, later_in, none_in}
 use Rattle.abnf_lint.proofs.OneFinding.{key_total}
 use Rattle.abnf_lint.proofs.Stands.{stands_is}
 
 -- ---- keys that tie are one
-
-cmp_lt : (m n : ℕ) → m < n → nat_cmp m n ≡ Less
-cmp_lt m n h = rw (lt-ltb m n h) refl
-
-cmp_self : (m : ℕ) → nat_cmp m m ≡ Equal
-cmp_self m = rw (le-ltb m m (omega arith), eq-eqb m m refl) refl
-
-by_line : (p q : Key) → p.0 < q.0 → is_lt (key_cmp p q) ≡ true
-by_line p q h = rw (cmp_lt p.0 q.0 h) refl
-
-by_start : (p q : Key) → p.0 ≡ q.0 → p.1 < q.1 → is_lt (key_cmp p q) ≡ true
-by_start p q e h = rw (ap (λ n. nat_cmp p.0 n) (sym e) ∙ cmp_self p.0, cmp_lt p.1 q.1 h) refl
-
-by_row : (p q : Key) → p.0 ≡ q.0 → p.1 ≡ q.1 → p.2 < q.2 → is_lt (key_cmp p q) ≡ true
-by_row p q e f h = rw (ap (λ n. nat_cmp p.0 n) (sym e) ∙ cmp_self p.0, ap (λ n. nat_cmp p.1 n) (sym f) ∙ cmp_self p.1, cmp_lt p.2 q.2 h) refl
 
 both_false : (a b : Bool) → (not a && not b) ≡ true → (a ≡ false) × (b ≡ false)
 both_false true b e = absurd (cc e)

@@ -17,7 +17,8 @@ use Rattle.abnf_names.specs.Places.{Named, is_touched, named, use_after, uses_af
 use Rattle.abnf_lint.specs.declared.finding.Code.{Code}
 use Rattle.abnf_lint.specs.declared.finding.Code.TheVariants as c
 use Rattle.abnf_lint.specs.declared.finding.Finding.{Finding}
-use Rattle.abnf_lint.specs.own.Findings.{found_if, is_empty_range, is_empty_repeat, item_findings, items_findings, number_findings, use_findings}
+use Rattle.abnf_lint.specs.Found.{finding_if, item_found, items_found, number_found, use_found}
+use Rattle.abnf_lint.specs.Empty.{is_empty_number, is_turned}
 use Rattle.abnf_lint.specs.Rows.{IsEmptyRange, IsEmptyRepeat}
 use Rattle.abnf_lint.proofs.Member.{first_in, flat_in, in_cons, in_flat, later_in, none_in, one_in}
 
@@ -26,42 +27,42 @@ use Rattle.abnf_lint.proofs.Member.{first_in, flat_in, in_cons, in_flat, later_i
 abbrev pub finding : Code → Place → List ℕ → Finding
 finding code place name = record { place = place; code = code; name = name }
 
-pub in_found : (b : Bool) (code : Code) (place : Place) (name : List ℕ) (f : Finding) → Contains (found_if b code place name) f → (b ≡ true) × (finding code place name ≡ f)
+pub in_found : (b : Bool) (code : Code) (place : Place) (name : List ℕ) (f : Finding) → Contains (finding_if b code place name) f → (b ≡ true) × (finding code place name ≡ f)
 in_found true code place name f h = (refl, one_in (finding code place name) f h)
 in_found false code place name f h = none_in f h
 
-pub found_in : (b : Bool) (code : Code) (place : Place) (name : List ℕ) → b ≡ true → Contains (found_if b code place name) (finding code place name)
+pub found_in : (b : Bool) (code : Code) (place : Place) (name : List ℕ) → b ≡ true → Contains (finding_if b code place name) (finding code place name)
 found_in true code place name e = Contains-push [] (finding code place name)
 found_in false code place name e = absurd (cc e)
 
 -- ---- of an item
 
 abbrev pub OfNumber : Item → Finding → Type 0
-OfNumber item f = Contains (number_findings (kind_of item) (place_of item.token) item.token.text.now) f
+OfNumber item f = Contains (number_found (kind_of item) (place_of item.token) item.token.text.now) f
 
 -- what is found of a repeat or a number
 abbrev pub NumberFound : Kind → Place → List ℕ → Finding → Type 0
 NumberFound kind place text f =
-    ((kind ≡ Repeat) × (is_empty_repeat (repeat_limits text) ≡ true) × (finding c.EmptyRepeat place [] ≡ f))
-    ⊎ ((kind ≡ Number) × (is_empty_range (ends_of (number_part text)) ≡ true) × (finding c.EmptyRange place [] ≡ f))
+    ((kind ≡ Repeat) × (is_empty_number Repeat text ≡ true) × (finding c.EmptyRepeat place [] ≡ f))
+    ⊎ ((kind ≡ Number) × (is_empty_number Number text ≡ true) × (finding c.EmptyRange place [] ≡ f))
 
-pub number_found : (kind : Kind) (place : Place) (text : List ℕ) (f : Finding) → Contains (number_findings kind place text) f → NumberFound kind place text f
-number_found Repeat place text f h = let k = in_found (is_empty_repeat (repeat_limits text)) c.EmptyRepeat place [] f h in inl (refl, k.0, k.1)
-number_found Number place text f h = let k = in_found (is_empty_range (ends_of (number_part text))) c.EmptyRange place [] f h in inr (refl, k.0, k.1)
-number_found _ place text f h = none_in f h
+pub number_is : (kind : Kind) (place : Place) (text : List ℕ) (f : Finding) → Contains (number_found kind place text) f → NumberFound kind place text f
+number_is Repeat place text f h = let k = in_found (is_empty_number Repeat text) c.EmptyRepeat place [] f h in inl (refl, k.0, k.1)
+number_is Number place text f h = let k = in_found (is_empty_number Number text) c.EmptyRange place [] f h in inr (refl, k.0, k.1)
+number_is _ place text f h = none_in f h
 
 -- ---- of the items of a list
 
-module _ (names : List Name) (f : Finding) where
+module _ (strange : Name → Bool) (f : Finding) where
   abbrev pub ByUse : Kind → List Item → Type 0
-  ByUse before xs = (n : Named) × Contains (uses_after before xs) n × Contains (use_findings names n) f
+  ByUse before xs = (n : Named) × Contains (uses_after before xs) n × Contains (use_found strange n) f
 
   abbrev pub ByNumber : List Item → Type 0
   ByNumber xs = (item : Item) × Contains xs item × OfNumber item f
 
-  of_item : (before : Kind) (x : Item) (xs : List Item) → Contains (item_findings names before x) f → ByUse before (x ∷ xs) ⊎ ByNumber (x ∷ xs)
-  of_item before x xs h = elim (Contains-append_cases (flat_map (use_findings names) (use_after before x)) (number_findings (kind_of x) (place_of x.token) x.token.text.now) f h) [
-    | inl k ↦ let u = in_flat (use_findings names) (use_after before x) f k in inl (u.0, Contains-append_left (use_after before x) (uses_after (kind_of x) xs) u.0 u.1, u.2)
+  of_item : (before : Kind) (x : Item) (xs : List Item) → Contains (item_found strange before x) f → ByUse before (x ∷ xs) ⊎ ByNumber (x ∷ xs)
+  of_item before x xs h = elim (Contains-append_cases (flat_map (use_found strange) (use_after before x)) (number_found (kind_of x) (place_of x.token) x.token.text.now) f h) [
+    | inl k ↦ let u = in_flat (use_found strange) (use_after before x) f k in inl (u.0, Contains-append_left (use_after before x) (uses_after (kind_of x) xs) u.0 u.1, u.2)
     | inr k ↦ inr (x, first_in x xs, k)
   ]
 
@@ -71,27 +72,27 @@ module _ (names : List Name) (f : Finding) where
     | inr n ↦ inr (n.0, later_in x xs n.0 n.1, n.2)
   ]
 
-  pub in_items : (before : Kind) (xs : List Item) → Contains (items_findings names before xs) f → ByUse before xs ⊎ ByNumber xs
+  pub in_items : (before : Kind) (xs : List Item) → Contains (items_found strange before xs) f → ByUse before xs ⊎ ByNumber xs
   in_items before [] h = none_in f h
-  in_items before (x ∷ xs) h = elim (Contains-append_cases (item_findings names before x) (items_findings names (kind_of x) xs) f h) [
+  in_items before (x ∷ xs) h = elim (Contains-append_cases (item_found strange before x) (items_found strange (kind_of x) xs) f h) [
     | inl k ↦ of_item before x xs k
     | inr k ↦ of_later before x xs (in_items (kind_of x) xs k)
   ]
 
-  pub use_in : (before : Kind) (xs : List Item) (n : Named) → Contains (uses_after before xs) n → Contains (use_findings names n) f → Contains (items_findings names before xs) f
+  pub use_in : (before : Kind) (xs : List Item) (n : Named) → Contains (uses_after before xs) n → Contains (use_found strange n) f → Contains (items_found strange before xs) f
   use_in before [] n h k = none_in n h
   use_in before (x ∷ xs) n h k = elim (Contains-append_cases (use_after before x) (uses_after (kind_of x) xs) n h) [
-    | inl here ↦ Contains-append_left (item_findings names before x) (items_findings names (kind_of x) xs) f
-        (Contains-append_left (flat_map (use_findings names) (use_after before x)) (number_findings (kind_of x) (place_of x.token) x.token.text.now) f (flat_in (use_findings names) (use_after before x) n f here k))
-    | inr there ↦ Contains-append_right (item_findings names before x) (items_findings names (kind_of x) xs) f (use_in (kind_of x) xs n there k)
+    | inl here ↦ Contains-append_left (item_found strange before x) (items_found strange (kind_of x) xs) f
+        (Contains-append_left (flat_map (use_found strange) (use_after before x)) (number_found (kind_of x) (place_of x.token) x.token.text.now) f (flat_in (use_found strange) (use_after before x) n f here k))
+    | inr there ↦ Contains-append_right (item_found strange before x) (items_found strange (kind_of x) xs) f (use_in (kind_of x) xs n there k)
   ]
 
-  pub number_in : (before : Kind) (xs : List Item) (item : Item) → Contains xs item → OfNumber item f → Contains (items_findings names before xs) f
+  pub number_in : (before : Kind) (xs : List Item) (item : Item) → Contains xs item → OfNumber item f → Contains (items_found strange before xs) f
   number_in before [] item h k = none_in item h
   number_in before (x ∷ xs) item h k = elim (in_cons x xs item h) [
-    | inl e ↦ Contains-append_left (item_findings names before x) (items_findings names (kind_of x) xs) f
-        (Contains-append_right (flat_map (use_findings names) (use_after before x)) (number_findings (kind_of x) (place_of x.token) x.token.text.now) f (subst (λ y. OfNumber y f) (sym e) k))
-    | inr r ↦ Contains-append_right (item_findings names before x) (items_findings names (kind_of x) xs) f (number_in (kind_of x) xs item r k)
+    | inl e ↦ Contains-append_left (item_found strange before x) (items_found strange (kind_of x) xs) f
+        (Contains-append_right (flat_map (use_found strange) (use_after before x)) (number_found (kind_of x) (place_of x.token) x.token.text.now) f (subst (λ y. OfNumber y f) (sym e) k))
+    | inr r ↦ Contains-append_right (item_found strange before x) (items_found strange (kind_of x) xs) f (number_in (kind_of x) xs item r k)
   ]
 
 -- ---- a use defines nothing
@@ -120,18 +121,18 @@ most_of : (o : Option ℕ) (least : ℕ) → option_map_or (λ most. nat_lt most
 most_of None least e = absurd (cc e)
 most_of (Some most) least e = (most, refl, less_by most least e)
 
-pub empty_repeat_is : (item : Item) → kind_of item ≡ Repeat → is_empty_repeat (repeat_limits item.token.text.now) ≡ true → IsEmptyRepeat item
+pub empty_repeat_is : (item : Item) → kind_of item ≡ Repeat → is_empty_number Repeat item.token.text.now ≡ true → IsEmptyRepeat item
 empty_repeat_is item kind e = let m = most_of (repeat_limits item.token.text.now).1 (repeat_limits item.token.text.now).0 e in record { repeat = kind; most = m.0; bounded = m.1; above = m.2 }
 
-pub is_empty_of : (item : Item) → IsEmptyRepeat item → is_empty_repeat (repeat_limits item.token.text.now) ≡ true
+pub is_empty_of : (item : Item) → IsEmptyRepeat item → is_empty_number Repeat item.token.text.now ≡ true
 is_empty_of item r = ap (λ o. option_map_or (λ most. nat_lt most (repeat_limits item.token.text.now).0) o false) r.bounded ∙ lt-ltb r.most (repeat_limits item.token.text.now).0 r.above
 
-ends_by : (o : Option (ℕ × ℕ)) → is_empty_range o ≡ true → (ends : ℕ × ℕ) × (o ≡ Some ends) × (ends.1 < ends.0)
+ends_by : (o : Option (ℕ × ℕ)) → is_turned o ≡ true → (ends : ℕ × ℕ) × (o ≡ Some ends) × (ends.1 < ends.0)
 ends_by None e = absurd (cc e)
 ends_by (Some ends) e = (ends, refl, less_by ends.1 ends.0 e)
 
-pub empty_range_is : (item : Item) → kind_of item ≡ Number → is_empty_range (ends_of (number_part item.token.text.now)) ≡ true → IsEmptyRange item
+pub empty_range_is : (item : Item) → kind_of item ≡ Number → is_empty_number Number item.token.text.now ≡ true → IsEmptyRange item
 empty_range_is item kind e = let m = ends_by (ends_of (number_part item.token.text.now)) e in record { number = kind; ends = m.0; range = m.1; above = m.2 }
 
-pub is_turned_of : (item : Item) → IsEmptyRange item → is_empty_range (ends_of (number_part item.token.text.now)) ≡ true
-is_turned_of item r = ap is_empty_range r.range ∙ lt-ltb r.ends.1 r.ends.0 r.above
+pub is_turned_of : (item : Item) → IsEmptyRange item → is_empty_number Number item.token.text.now ≡ true
+is_turned_of item r = ap is_turned r.range ∙ lt-ltb r.ends.1 r.ends.0 r.above

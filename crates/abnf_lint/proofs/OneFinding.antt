@@ -12,6 +12,7 @@ use Rattle.std.proofs.lemmas.List.Sorted.{ranks_by}
 use Rattle.abnf_token.specs.declared.token.Kind.{Kind}
 use Rattle.abnf_syntax.specs.declared.block.Head.{Head}
 use Rattle.abnf_syntax.specs.declared.item.Item.{Item}
+use Rattle.abnf_syntax.specs.declared.fault.SyntaxFault.{SyntaxFault}
 use Rattle.abnf_syntax.specs.Grammar.{kind_of}
 use Rattle.abnf_syntax.specs.Heads.{head_of}
 use Rattle.abnf_syntax.proofs.Bare.{bare, bare_head, head_bare}
@@ -22,9 +23,11 @@ use Rattle.abnf_names.specs.Rules.{Grammar, grammar_of, names_of, rules_of}
 use Rattle.abnf_names.specs.Excerpts.{Excerpt, excerpt_of}
 use Rattle.abnf_names.proofs.OneGrammar.{Plain, one_grammar, same_block, same_seen}
 use Rattle.abnf_lint.specs.declared.finding.Finding.{Finding}
+use Rattle.abnf_lint.specs.declared.told.HeadTold.{HeadTold}
 use Rattle.abnf_lint.specs.Unproductive.{AreUnproductive}
 use Rattle.abnf_lint.specs.Order.{Key, key, key_cmp}
-use Rattle.abnf_lint.specs.own.Findings.{AreFindings, AreOrdered, block_findings, body_findings, findings_in, fault_findings, head_findings, item_findings, items_findings}
+use Rattle.abnf_lint.specs.own.Findings.{AreFindings, AreOrdered, block_findings, findings_in, head_told}
+use Rattle.abnf_lint.specs.Found.{block_found, body_found, fault_found, head_found, is_none_of, item_found, items_found}
 use Rattle.abnf_lint.specs.own.Passes.{findings_behind, with_base, with_head}
 use Rattle.abnf_lint.proofs.Behind.{behind_after}
 use Rattle.abnf_lint.proofs.OneOrder.{one_order}
@@ -46,17 +49,26 @@ same_excerpts = same_seen bare_excerpt (λ ls at b c p q. ap excerpt_told (same_
 
 -- ---- what is found in bare blocks
 
-items_bare : (names : List Name) (before : Kind) (xs : List Item) → items_findings names before (map bare xs) ≡ items_findings names before xs
-items_bare names before [] = refl
-items_bare names before (x ∷ xs) = ap (λ l. item_findings names before x ++ l) (items_bare names (kind_of x) xs)
+items_bare : (strange : Name → Bool) (before : Kind) (xs : List Item) → items_found strange before (map bare xs) ≡ items_found strange before xs
+items_bare strange before [] = refl
+items_bare strange before (x ∷ xs) = ap (λ l. item_found strange before x ++ l) (items_bare strange (kind_of x) xs)
 
-body_bare : (names : List Name) (xs : List Item) → body_findings names (map bare xs) ≡ body_findings names xs
-body_bare names [] = refl
-body_bare names (x ∷ xs) = items_bare names (kind_of x) xs
+body_bare : (strange : Name → Bool) (xs : List Item) → body_found strange (map bare xs) ≡ body_found strange xs
+body_bare strange [] = refl
+body_bare strange (x ∷ xs) = items_bare strange (kind_of x) xs
 
-head_by : (marks : List Bool) (names heads bases : List Name) (o : Option Head) → option_map_or (head_findings marks names heads bases) (option_map bare_head o) [] ≡ option_map_or (head_findings marks names heads bases) o []
-head_by marks names heads bases None = refl
-head_by marks names heads bases (Some head) = refl
+module _ (tell : Head → HeadTold) (bare_told : (head : Head) → tell (bare_head head) ≡ tell head) where
+  abbrev at_head : Option Head → List Finding
+  at_head o = option_map_or (λ head. head_found (tell head) head) o []
+
+  head_found_bare : (o : Option Head) → at_head (option_map bare_head o) ≡ at_head o
+  head_found_bare None = refl
+  head_found_bare (Some head) = ap (λ told. head_found told head) (bare_told head)
+
+  pub found_bare : (strange : Name → Bool) (items : List Item) (fault : Option SyntaxFault) → block_found tell strange (map bare items) fault ≡ block_found tell strange items fault
+  found_bare strange items fault =
+      (λ i. (ap at_head (head_bare items) ∙ head_found_bare (head_of items)) i
+      ++ option_map_or fault_found fault (body_bare strange items i))
 
 added_by : (heads : List Name) (o : Option Head) → option_map_or (λ head. with_name heads (name_of head)) (option_map bare_head o) heads ≡ option_map_or (λ head. with_name heads (name_of head)) o heads
 added_by heads None = refl
@@ -76,10 +88,7 @@ base_added : (bases : List Name) (o : Excerpt) → with_base bases (bared o) ≡
 base_added bases o = ap (base_of bases) (head_bare o.items) ∙ base_by bases (head_of o.items)
 
 block_bare : (marks : List Bool) (names heads bases : List Name) (o : Excerpt) → block_findings marks names heads bases (bared o) ≡ block_findings marks names heads bases o
-block_bare marks names heads bases o =
-    let said = ap (λ fs. option_map_or fault_findings o.fault fs) (body_bare names o.items) in
-    let head = ap (λ h. option_map_or (head_findings marks names heads bases) h []) (head_bare o.items) ∙ head_by marks names heads bases (head_of o.items) in
-    (λ i. said i ++ head i)
+block_bare marks names heads bases o = found_bare (head_told marks names heads bases) (λ head. refl) (is_none_of names) o.items o.fault
 
 behind_bare : (marks : List Bool) (names heads bases : List Name) (blocks : List Block) → findings_behind marks names heads bases (map bare_excerpt blocks) ≡ findings_behind marks names heads bases (map excerpt_of blocks)
 behind_bare marks names heads bases [] = refl

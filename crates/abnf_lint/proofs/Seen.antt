@@ -21,8 +21,8 @@ use Rattle.abnf_names.specs.Rules.{Grammar, IsGrammar, defined, names_of, needed
 use Rattle.abnf_names.specs.Said.{Block, name_of}
 use Rattle.abnf_names.proofs.Within.{rule_within}
 use Rattle.abnf_lint.specs.declared.block.Seen.{Seen}
-use Rattle.abnf_lint.specs.own.Findings.{has_name, head_findings, is_marked}
-use Rattle.abnf_lint.specs.own.Passes.{AreSeen, HasMark, HaveRules, head_found, seen_more, seen_of, with_base, with_head}
+use Rattle.abnf_lint.specs.own.Findings.{has_name, head_told, is_marked}
+use Rattle.abnf_lint.specs.own.Passes.{AreSeen, HasMark, HaveRules, seen_more, seen_of, told_of_head, with_base, with_head}
 use Rattle.abnf_lint.proofs.Heads.{defines_is, from_has, has_from}
 use Rattle.abnf_lint.proofs.Member.{first_in, later_in}
 
@@ -122,8 +122,8 @@ module _ (names heads bases : List Name) (seen : List Seen) (are : AreSeen names
   marked_is : (marks : List Bool) → slice_index_or marks r false ≡ is_marked marks names (name_of head)
   marked_is marks = sym (ap (λ o. option_map_or (λ k. slice_index_or marks k false) o false) at)
 
-  pub found_is : (marks : List Bool) → head_found before (slice_index_or marks r false) head ≡ head_findings marks names heads bases head
-  found_is marks = (λ i. head_found (before_is i) (marked_is marks i) head)
+  pub found_is : (marks : List Bool) → told_of_head before (slice_index_or marks r false) head ≡ head_told marks names heads bases head
+  found_is marks = (λ i. told_of_head (before_is i) (marked_is marks i) head)
 
 -- with the head of a block, if it has one
 pub seen_next : (names heads bases : List Name) (seen new : List Seen) → AreSeen names heads bases seen → (block : Excerpt) (head : Head) → head_of block.items ≡ Some head

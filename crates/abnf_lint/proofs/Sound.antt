@@ -40,16 +40,18 @@ use Rattle.abnf_names.specs.Said.{Block, BlockSays, name_of}
 use Rattle.abnf_names.proofs.Kept.{each_says}
 use Rattle.abnf_names.proofs.UsersLaws.{cut, next_root}
 use Rattle.abnf_lint.specs.declared.finding.Code.TheVariants as c
-use Rattle.abnf_lint.specs.own.Findings.{based, found_if, has_name, body_findings, fault_findings, is_empty_range, is_empty_repeat, item_findings, items_findings, number_findings, use_findings}
+use Rattle.abnf_lint.specs.own.Findings.{based, has_name}
+use Rattle.abnf_lint.specs.Found.{body_found, fault_found, finding_if, is_none_of, item_found, items_found, number_found, use_found}
+use Rattle.abnf_lint.specs.Empty.{is_above, is_empty_number, is_turned}
 use Rattle.abnf_lint.specs.own.Passes.{AreSoundMarks, AreSoundWhereMarked, IsSoundRule, IsSoundWhereMarked, counts, is_sound, is_sound_part}
 use Rattle.abnf_lint.proofs.Behind.{bases_more}
 use Rattle.abnf_lint.proofs.Heads.{bases_is, defines_is, from_has}
 use Rattle.abnf_lint.proofs.Member.{filter_in, first_in, flat_in, in_filter, later_in}
 use Rattle.abnf_lint.proofs.Refers.{Among, TellsBy, below, is_told, items_told}
 
-is_name_kind : (kind : Kind) → is_name kind ≡ true → kind ≡ k.Name
-is_name_kind k.Name h = refl
-is_name_kind _ h = absurd (cc h)
+is_a_name : (kind : Kind) → is_name kind ≡ true → kind ≡ k.Name
+is_a_name k.Name h = refl
+is_a_name _ h = absurd (cc h)
 
 -- ---- the nodes
 
@@ -59,8 +61,7 @@ node_sound n (series characters) node h = ap is_sound h
 node_sound n (span low high) node h = ap is_sound h
 node_sound n (seq ps) node h = ap is_sound h
 node_sound n (alt ps) node h = ap is_sound h
-node_sound n (rep least None p) node h = ap is_sound h
-node_sound n (rep least (Some most) p) node h = ap is_sound h
+node_sound n (rep least most p) node h = ap is_sound h
 node_sound n (ref name None) node h = ap is_sound h.1
 node_sound n (ref name (Some r)) node h = ap is_sound h.1
 node_sound n opaque node h = ap is_sound h
@@ -118,7 +119,7 @@ none_marked rules r e = absurd (cc e)
 
 -- ---- the items
 
-range_sound : (p : Part) → is_sound_part p ≡ true → is_empty_range (ends_of p) ≡ false
+range_sound : (p : Part) → is_sound_part p ≡ true → is_turned (ends_of p) ≡ false
 range_sound (span low high) e = not-true (nat_lt high low) e
 range_sound (quoted text exact) e = refl
 range_sound (series characters) e = refl
@@ -128,11 +129,10 @@ range_sound (rep least most p) e = refl
 range_sound (ref name rule) e = refl
 range_sound opaque e = refl
 
-repeat_sound : (b : ℕ × Option ℕ) (p : Part) → is_sound_part (rep b.0 b.1 p) ≡ true → is_empty_repeat b ≡ false
-repeat_sound (least, None) p e = refl
-repeat_sound (least, Some most) p e = not-true (nat_lt most least) e
+repeat_sound : (b : ℕ × Option ℕ) (p : Part) → is_sound_part (rep b.0 b.1 p) ≡ true → is_above b.0 b.1 ≡ false
+repeat_sound b p e = not-true (is_above b.0 b.1) e
 
-found_none : (o : Option ℕ) (place : Place) (text : List ℕ) → (o ≡ None → ⊥) → found_if (not (is_some o)) c.Undefined place text ≡ []
+found_none : (o : Option ℕ) (place : Place) (text : List ℕ) → (o ≡ None → ⊥) → finding_if (not (is_some o)) c.Undefined place text ≡ []
 found_none None place text known = absurd (known refl)
 found_none (Some r) place text known = refl
 
@@ -146,29 +146,29 @@ module _ (names : List Name) where
 
   -- nothing is found at the item, whatever stands before it
   abbrev IsSilent : Item → Type 0
-  IsSilent item = (before : Kind) → item_findings names before item ≡ []
+  IsSilent item = (before : Kind) → item_found (is_none_of names) before item ≡ []
 
   named_none : (b : Bool) (item : Item) → (b ≡ true → stands_for (lowercase item.token.text.now) ≡ None → ⊥)
-      → flat_map (use_findings names) (if b then record { text = item.token.text.now; place = place_of item.token; defines = false } ∷ [] else []) ≡ []
+      → flat_map (use_found (is_none_of names)) (if b then record { text = item.token.text.now; place = place_of item.token; defines = false } ∷ [] else []) ≡ []
   named_none false item known = refl
   named_none true item known = append-nil _ ∙ found_none (stands_for (lowercase item.token.text.now)) (place_of item.token) item.token.text.now (known refl)
 
-  use_none : (b : Bool) (item : Item) → (is_name (kind_of item) ≡ true → stands_for (lowercase item.token.text.now) ≡ None → ⊥) → flat_map (use_findings names) (if b then [] else named false item) ≡ []
+  use_none : (b : Bool) (item : Item) → (is_name (kind_of item) ≡ true → stands_for (lowercase item.token.text.now) ≡ None → ⊥) → flat_map (use_found (is_none_of names)) (if b then [] else named false item) ≡ []
   use_none true item known = refl
   use_none false item known = named_none (is_name (kind_of item)) item known
 
-  number_none : (kind : Kind) (place : Place) (text : List ℕ) → (kind ≡ k.Repeat → is_empty_repeat (repeat_limits text) ≡ false) → (kind ≡ k.Number → is_empty_range (ends_of (number_part text)) ≡ false)
-      → number_findings kind place text ≡ []
-  number_none k.Repeat place text counts ranges = ap (λ b. found_if b c.EmptyRepeat place []) (counts refl)
-  number_none k.Number place text counts ranges = ap (λ b. found_if b c.EmptyRange place []) (ranges refl)
+  number_none : (kind : Kind) (place : Place) (text : List ℕ) → (kind ≡ k.Repeat → is_empty_number k.Repeat text ≡ false) → (kind ≡ k.Number → is_empty_number k.Number text ≡ false)
+      → number_found kind place text ≡ []
+  number_none k.Repeat place text counts ranges = ap (λ b. finding_if b c.EmptyRepeat place []) (counts refl)
+  number_none k.Number place text counts ranges = ap (λ b. finding_if b c.EmptyRange place []) (ranges refl)
   number_none _ place text counts ranges = refl
 
   silent : (item : Item) → (is_name (kind_of item) ≡ true → stands_for (lowercase item.token.text.now) ≡ None → ⊥)
-      → (kind_of item ≡ k.Repeat → is_empty_repeat (repeat_limits item.token.text.now) ≡ false) → (kind_of item ≡ k.Number → is_empty_range (ends_of (number_part item.token.text.now)) ≡ false) → IsSilent item
+      → (kind_of item ≡ k.Repeat → is_empty_number k.Repeat item.token.text.now ≡ false) → (kind_of item ≡ k.Number → is_empty_number k.Number item.token.text.now ≡ false) → IsSilent item
   silent item known counts ranges before =
       (λ i. use_none (is_touched before item) item known i ++ number_none (kind_of item) (place_of item.token) item.token.text.now counts ranges i)
 
-  items_silent : (before : Kind) (items : List Item) → ((item : Item) → Contains items item → IsSilent item) → items_findings names before items ≡ []
+  items_silent : (before : Kind) (items : List Item) → ((item : Item) → Contains items item → IsSilent item) → items_found (is_none_of names) before items ≡ []
   items_silent before [] all = refl
   items_silent before (x ∷ xs) all = (λ i. all x (first_in x xs) before i ++ items_silent (kind_of x) xs (λ y m. all y (later_in x xs y m)) i)
 
@@ -274,7 +274,7 @@ module _ (blocks : List Block) (says : All (λ block. BlockSays block.items bloc
   -- nothing is found at such an item
   by_kind : (item : Item) → ((h : is_told (kind_of item) ≡ true) → (x : Part) × TellsBy number (kind_of item) item x × (is_sound_part x ≡ true)) → IsSilent names item
   by_kind item tells = silent names item
-      (λ named none. let t = tells_of k.Name (is_name_kind (kind_of item) named) refl in
+      (λ named none. let t = tells_of k.Name (is_a_name (kind_of item) named) refl in
       never_unsound item.token.text.now (number (lowercase item.token.text.now)) (ap is_sound_part (sym t.1) ∙ t.2) none)
       (λ e. let t = tells_of k.Repeat e refl in repeat_sound (repeat_limits item.token.text.now) t.1.0 (ap is_sound_part (sym t.1.1) ∙ t.2))
       (λ e. let t = tells_of k.Number e refl in range_sound (number_part item.token.text.now) (ap is_sound_part (sym t.1) ∙ t.2))
@@ -283,11 +283,11 @@ module _ (blocks : List Block) (says : All (λ block. BlockSays block.items bloc
       tells_of kind e told = subst (λ n. (x : Part) × TellsBy number n item x × (is_sound_part x ≡ true)) e (tells (ap is_told e ∙ told))
 
   of_said : (b : Block) (name : Name) → Contains (defined blocks) name → (r : ℕ) → number name ≡ Some r → slice_index_or marks r false ≡ true → Contains (counted (filter (defines name) blocks)) b → BlockSays b.items b.said → (r : Result Rule SyntaxFault) → b.said ≡ r → fault_shown r ≡ None
-      → body_findings names b.items ≡ []
+      → body_found (is_none_of names) b.items ≡ []
   of_said b name h r of_name marked counts said (Err fault) e shown = absurd (cc shown)
   of_said b name h r of_name marked counts said (Ok rule) e shown =
       let d : Derives b.items rule = subst (BlockSays b.items) e said in
-      subst (λ xs. body_findings names xs ≡ []) (sym d.split)
+      subst (λ xs. body_found (is_none_of names) xs ≡ []) (sym d.split)
       (items_silent names (kind_of d.head) (d.defined ∷ d.body) (λ item m.
       by_kind item (λ told.
       let among = items_told number b.items rule d item told m in
@@ -300,7 +300,7 @@ module _ (blocks : List Block) (says : All (λ block. BlockSays block.items bloc
       let among : Contains blocks b = subst (λ bs. Contains bs b) (sym split) (Contains-append_right before (b ∷ after) b (first_in b after)) in
       let has : Contains (defined blocks) name = from_has (defined blocks) name ((defines_is blocks name).1 (b, among, ap (option_map name_of) c.1)) in
       let there : Contains (counted (filter (defines name) blocks)) b = subst (λ bs. Contains (counted (filter (defines name) bs)) b) (sym split) (counted_there before b after c.0 c.1 c.2) in
-      ap (λ fault. option_map_or fault_findings fault (body_findings names b.items)) none
+      ap (λ fault. option_map_or fault_found fault (body_found (is_none_of names) b.items)) none
       ∙ of_said b name has r (subst (λ (h : Head). number (name_of h) ≡ Some r) (one_head headed c.0 (sym headed_is ∙ c.1)) of_name) marked there (All-contains (λ block. BlockSays block.items block.said) blocks b says among) b.said refl none
 
   from_block : (before after : List Block) → blocks ≡ before ++ after → AreSoundWhereMarked marks names (based before) (map excerpt_of after)

@@ -17,9 +17,9 @@ use Rattle.abnf_lint.specs.Unproductive.{AreUnproductive}
 use Rattle.abnf_lint.specs.own.Findings.{AreFindings, based, block_findings, findings_after, findings_in}
 use Rattle.abnf_lint.specs.Rows.{RowStands}
 use Rattle.abnf_lint.proofs.Exist.{some_order}
-use Rattle.abnf_lint.proofs.FoundBlock.{row_in, row_of}
 use Rattle.abnf_lint.proofs.Member.{none_in}
 use Rattle.abnf_lint.proofs.OneFinding.{findings_unique}
+use Rattle.abnf_lint.proofs.RowsTold.{found_holds}
 
 -- ---- in one of the blocks
 
@@ -55,7 +55,7 @@ found_in_some text found are f =
 
 -- ---- what is known of a text's blocks
 
-within_says : (ls : List Text) (bounds : List (ℕ × ℕ)) (before : List Block) (block : Block) (after : List Block) → AreWithin ls bounds (before ++ block ∷ after) → BlockSays block.items block.said
+pub within_says : (ls : List Text) (bounds : List (ℕ × ℕ)) (before : List Block) (block : Block) (after : List Block) → AreWithin ls bounds (before ++ block ∷ after) → BlockSays block.items block.said
 within_says ls [] [] block after h = absurd h
 within_says ls (b ∷ bounds) [] block after h = h.0.says
 within_says ls [] (c ∷ before) block after h = absurd h
@@ -82,7 +82,7 @@ row_down text found are f h =
       block = some.1;
       after = some.2;
       split = some.3;
-      holds = row_of are.blocks some.0 some.1 are.marks are.are_marks (said_of text are.blocks are.of_text some.0 some.1 some.2 some.3) (in_range text are.blocks are.of_text) f some.4;
+      holds = (found_holds are.blocks some.0 some.1 are.marks are.are_marks (said_of text are.blocks are.of_text some.0 some.1 some.2 some.3) (in_range text are.blocks are.of_text) f).0 some.4;
     }
 
 row_up : (text : List ℕ) (found : List Finding) (are : AreFindings text found) (f : Finding) → RowStands text f → Contains found f
@@ -93,7 +93,7 @@ row_up text found are f st =
     let order = some_order (findings_in are.marks st.blocks) in
     let other : AreFindings text order.0 = record { blocks = st.blocks; of_text = st.of_text; marks = are.marks; are_marks = marks; ordered = order.1 } in
     let here : InBlock are.marks (names_of st.blocks) f st.before st.block =
-    row_in st.blocks st.before st.block are.marks marks (said_of text st.blocks st.of_text st.before st.block st.after st.split) (in_range text st.blocks st.of_text) f.code f.place f.name st.holds in
+    (found_holds st.blocks st.before st.block are.marks marks (said_of text st.blocks st.of_text st.before st.block st.after st.split) (in_range text st.blocks st.of_text) f).1 st.holds in
     subst (λ (xs : List Finding). Contains xs f) (sym (findings_unique text found order.0 are other)) ((found_in_some text order.0 other f).1 (st.before, st.block, st.after, st.split, here))
 
 pub stands_is : (text : List ℕ) (found : List Finding) → AreFindings text found → (f : Finding) → Contains found f ↔ RowStands text f

@@ -2,4 +2,9 @@ pub mod Unproductive
 pub mod Order
 pub mod Messages
 pub mod Rows
+pub mod Empty
+pub mod Found
+pub mod Told
+pub mod Yields
+pub mod Marks
 pub mod own

@@ -108,7 +108,7 @@ pub record RowStands (text : List ℕ) (found : Finding) : Type 0 where
   pub holds : RowHolds blocks before block found.place found.name found.code
 
 -- These are the rows of the table that hold of the text, each once, by line, start and row: what is found in it. No two share
--- all three. Each text of fewer than 2^62 characters has one such list (`findings_exist` in `abnf_productive`), and no second
+-- all three. Each text of fewer than 2^62 characters has one such list (`findings_exist`), and no second
 -- (`findings_are_unique`).
 pub record AreRows (text : List ℕ) (rows : List Finding) : Type 0 where
   pub each : (f : Finding) → Contains rows f ↔ RowStands text f

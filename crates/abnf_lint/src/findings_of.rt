@@ -9,7 +9,8 @@ ghost use Rattle.abnf_lint.specs.own.Passes as passes;
 ghost use Rattle.abnf_lint.specs.Rows.{AreRows};
 ghost use Rattle.abnf_lint.specs.Unproductive.{AreUnproductive};
 
-use crate::block::{Seen, push_block};
+use crate::block::{Known, Seen, push_block};
+use crate::empty::{is_above, is_turned};
 use crate::finding::Finding;
 use crate::unproductive::unproductive_rules;
 use abnf_cert::Cert;
@@ -23,12 +24,8 @@ fn is_sound(node: &Node<'_>) -> bool
 {
     match node {
         Node::Ref { name: _, rule } => rule.is_some(),
-        Node::Span { low, high } => !(*high < *low),
-        Node::Rep {
-            least,
-            most: Some(most),
-            body: _,
-        } => !(*most < *least),
+        Node::Span { low, high } => !is_turned(Some((*low, *high))),
+        Node::Rep { least, most, .. } => !is_above(*least, *most),
         _ => true,
     }
 }
@@ -90,6 +87,11 @@ fn candidates<'t>(
     ensures { IfOk result (λ found. found ≡ passes.findings_behind marks.now grammar.now.names [] [] (map excerpt sections.now)) }
 {
     let sound = sound_rules(alloc, grammar)?;
+    let known = Known {
+        grammar,
+        marks,
+        sound: sound.as_slice(),
+    };
     let not_seen = Seen {
         is_head: false,
         is_base: false,
@@ -100,16 +102,7 @@ fn candidates<'t>(
     // Rules have the order of their first heads, so the next one is mostly the first of which none has come.
     let mut guess: usize = 0;
     for section in sections {
-        push_block(
-            alloc,
-            grammar,
-            marks,
-            sound.as_slice(),
-            seen,
-            guess,
-            section,
-            &mut found,
-        )?;
+        push_block(alloc, &known, seen, guess, section, &mut found)?;
         guess = guess.saturating_add(usize::from(has_come(seen, guess)));
     }
     Ok(found)

@@ -5,6 +5,7 @@ use Rattle.std.specs.List.{filter_map, cons_option, list_any}
 use Rattle.std.specs.Option.{is_some}
 use Rattle.std.specs.Str.{bytes_eq}
 use Rattle.std.proofs.lemmas.List.Folds.{list_any-append}
+use Rattle.std.proofs.Math.Bool.{or-false}
 use Rattle.abnf_token.proofs.Language.{and_false, and_true}
 use Rattle.abnf_token.specs.Folded.{lowercase}
 use Rattle.abnf_token.specs.declared.token.Kind.{Kind}
@@ -19,10 +20,6 @@ use Rattle.abnf_parts.proofs.NeededLaws.{any_folded}
 use Rattle.abnf_names.specs.Said.{Block, AreSaid, name_of}
 use Rattle.abnf_names.specs.Places.{Named, is_touched, named, places_in, places_of, places_of_name, use_after, uses_after}
 use Rattle.abnf_names.specs.Rules.{Grammar, IsGrammar, defined, head_name}
-
-or_false : (b : Bool) → (b || false) ≡ b
-or_false true = refl
-or_false false = refl
 
 module _ (name : Name) where
   abbrev is_called : Named → Bool
@@ -44,7 +41,7 @@ module _ (name : Name) where
   -- ---- the places of a block
 
   no_use : (item : Item) (b : Bool) → is_name (kind_of item) ≡ b → list_any is_its_head (named false item) ≡ false
-  no_use item true e = rw e (or_false (bytes_eq name (lowercase item.token.text.now) && false) ∙ and_false (bytes_eq name (lowercase item.token.text.now)))
+  no_use item true e = rw e (or-false (bytes_eq name (lowercase item.token.text.now) && false) ∙ and_false (bytes_eq name (lowercase item.token.text.now)))
   no_use item false e = rw e refl
 
   unless_touched : (b : Bool) (item : Item) → list_any is_its_head (if b then [] else named false item) ≡ false
@@ -67,8 +64,8 @@ module _ (name : Name) where
   of_head item items e =
       list_any-append is_its_head (named true item) (uses_after (kind_of item) items)
       ∙ (ap (λ b. list_any is_its_head (named true item) || b) (no_uses (kind_of item) items)
-      ∙ (or_false (list_any is_its_head (named true item))
-      ∙ rw e (or_false (bytes_eq name (lowercase item.token.text.now) && true) ∙ and_true (bytes_eq name (lowercase item.token.text.now)))))
+      ∙ (or-false (list_any is_its_head (named true item))
+      ∙ rw e (or-false (bytes_eq name (lowercase item.token.text.now) && true) ∙ and_true (bytes_eq name (lowercase item.token.text.now)))))
 
   abbrev is_that : Option Name → Bool
   is_that None = false

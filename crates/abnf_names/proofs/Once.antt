@@ -3,8 +3,9 @@ use Rattle.std.proofs.Common.{◌≡◌, Bool, true, false, ◌||◌, List, [], 
 use Rattle.std.specs.Prelude.{if◌then◌else◌, fold, filter_map}
 use Rattle.std.specs.List.{list_any}
 use Rattle.std.specs.Str.{bytes_eq}
+use Rattle.std.proofs.lemmas.Bool.{or_parts}
 use Rattle.abnf_parts.specs.Names.{Name, with_name}
-use Rattle.abnf_parts.proofs.NameLaws.{never, same_refl, same_sym}
+use Rattle.abnf_parts.proofs.NameLaws.{same_refl, same_sym}
 use Rattle.abnf_names.specs.Said.{Block}
 use Rattle.abnf_names.specs.Rules.{defined, head_name}
 use Rattle.abnf_names.specs.own.Passes.{members_in}
@@ -13,20 +14,16 @@ abbrev pub IsOnce : List Name → Type 0
 IsOnce [] = Unit {0}
 IsOnce (n ∷ names) = (list_any (bytes_eq n) names ≡ false) × IsOnce names
 
-pub or_false : (a b : Bool) → a || b ≡ false → (a ≡ false) × (b ≡ false)
-or_false true b e = never true refl e
-or_false false b e = (refl, e)
-
 any_push : (test : Name → Bool) (names : List Name) (n : Name) → list_any test names ≡ false → test n ≡ false → list_any test (names ++ n ∷ []) ≡ false
 any_push test [] n e f = ap (λ b. b || false) f
 any_push test (m ∷ names) n e f =
-    let h = or_false (test m) (list_any test names) e in
+    let h = or_parts (test m) (list_any test names) e in
     (λ i. h.0 i || any_push test names n h.1 f i)
 
 once_push : (names : List Name) (n : Name) → IsOnce names → list_any (bytes_eq n) names ≡ false → IsOnce (names ++ n ∷ [])
 once_push [] n o e = (refl, tt)
 once_push (m ∷ names) n o e =
-    let h = or_false (bytes_eq n m) (list_any (bytes_eq n) names) e in
+    let h = or_parts (bytes_eq n m) (list_any (bytes_eq n) names) e in
     (any_push (bytes_eq m) names n o.0 (same_sym m n ∙ h.0), once_push names n o.1 h.1)
 
 once_if : (b : Bool) (names : List Name) (n : Name) → list_any (bytes_eq n) names ≡ b → IsOnce names → IsOnce (if b then names else names ++ n ∷ [])
@@ -49,7 +46,7 @@ module _ {T : Type 0} where
   passed : (n : Name) (list : List T) (under : Name → List T) (names : List Name) → list_any (bytes_eq n) names ≡ false → map (λ m. if bytes_eq m n then list else under m) names ≡ map under names
   passed n list under [] e = refl
   passed n list under (m ∷ names) e =
-      let h = or_false (bytes_eq n m) (list_any (bytes_eq n) names) e in
+      let h = or_parts (bytes_eq n m) (list_any (bytes_eq n) names) e in
       ap (λ b. (if b then list else under m) ∷ map (λ k. if bytes_eq k n then list else under k) names) (same_sym m n ∙ h.0)
       ∙ ap (λ rest. under m ∷ rest) (passed n list under names h.1)
 

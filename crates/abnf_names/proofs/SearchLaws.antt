@@ -6,6 +6,7 @@ use Rattle.std.proofs.lemmas.Bool.{eq-eqb, eqb-true, or_cases, cases_lt, false�
 use Rattle.std.proofs.lemmas.List.{get_or_past, get_or_default, get_or_append_left, length_push}
 use Rattle.std.proofs.lemmas.List.Elements.{Contains-append_left, Contains-push, Contains-push_cases}
 use Rattle.std.proofs.lemmas.Option.{slice_get_within, get_or_from_slice_get}
+use Rattle.std.proofs.Math.Bool.{or-true}
 use Rattle.abnf_names.specs.own.Search.{users_at, LeadsBy, LeadsToLast, with_place, AreReachMarks, AreMarked}
 
 -- what was found leads to the last place, which was found too; and so were all users of the first places that were found
@@ -14,14 +15,10 @@ pub record IsSearched (users : List (List ℕ)) (found : List ℕ) (first : ℕ)
   pub last : (place : ℕ) → suc place ≡ length users → Contains found place
   pub closed : (k place : ℕ) → k < first → Contains (users_at users (slice_index_or found k 0)) place → Contains found place
 
-or_true : (b : Bool) → (b || true) ≡ true
-or_true true = refl
-or_true false = refl
-
 any_at : (places : List ℕ) (place k : ℕ) → k < length places → get_or places k place ≡ place → list_any (λ p. p == place) places ≡ true
 any_at [] place k l e = absurd (omega arith)
 any_at (p ∷ places) place zero l e = ap (λ b. b || list_any (λ p. p == place) places) (eq-eqb p place e)
-any_at (p ∷ places) place (suc k) l e = ap (λ b. p == place || b) (any_at places place k (omega arith) e) ∙ or_true (p == place)
+any_at (p ∷ places) place (suc k) l e = ap (λ b. p == place || b) (any_at places place k (omega arith) e) ∙ or-true (p == place)
 
 contains_any : (places : List ℕ) (place : ℕ) → list_any (λ p. p == place) places ≡ true → Contains places place
 contains_any [] place h = absurd (false≢true h)

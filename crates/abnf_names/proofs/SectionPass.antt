@@ -4,6 +4,7 @@ use Rattle.std.specs.Prelude.{is_some, Option, Result}
 use Rattle.std.proofs.lemmas.Grind.{not_there}
 use Rattle.std.proofs.Math.Logic.{∥∥₁_elim, ∥∥₁_map}
 use Rattle.std.proofs.Math.Nat.{ℕ_set}
+use Rattle.std.proofs.lemmas.Option.{same_Some}
 use Rattle.ls_text.specs.declared.position.Place.{Place}
 use Rattle.abnf_names.specs.Said.{BlockSays}
 use Rattle.abnf_syntax.specs.declared.item.Item.{Item}
@@ -96,9 +97,6 @@ same_fault x y h =
     same_place (place x) (place y) (same_number (λ z. (place z).line) x y h) (same_number (λ z. (place z).start) x y h) (same_number (λ z. (place z).end) x y h) in
     sym (is_numbered x) ∙ ((λ i. numbered (places i) (same_number number x y h i)) ∙ is_numbered y)
 
-some_same : (x y : SyntaxFault) → ◌≡◌ {A = Option SyntaxFault} (Some x) (Some y) → x ≡ y
-some_same x y h = cc
-
 -- What a section's block says is found again.
 pub found_again : (items : List Item) (fault : Option SyntaxFault) → 0 < length items → ∥ HasFault items fault ∥₁ → HasFault items fault
 found_again items fault some h = by_answer fault h (some_answer items some)
@@ -116,7 +114,7 @@ found_again items fault some h = by_answer fault h (some_answer items some)
       where
         by_said : (said : Result Rule SyntaxFault) → BlockSays items said → Some g ≡ fault_shown said → shows.0 ≡ g
         by_said (Ok rule) is shown = absurd (cc)
-        by_said (Err e) is shown = one_fault items shows.0 e shows.1 is ∙ some_same e g (sym shown)
+        by_said (Err e) is shown = one_fault items shows.0 e shows.1 is ∙ same_Some e g (sym shown)
 
 pub none_is : (fault : Option SyntaxFault) → is_some fault ≡ false → fault ≡ None
 none_is None h = refl

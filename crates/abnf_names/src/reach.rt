@@ -187,21 +187,6 @@ fn users_of(alloc: Global, nodes: &[Node<'_>], roots: &[NodeNo]) -> Result<Vec<U
     Ok(users)
 }
 
-/// For each rule whether it leads to prose or to a faulty block, by the uses of all rules.
-fn reaching_by_uses(
-    alloc: Global,
-    nodes: &[Node<'_>],
-    roots: &[NodeNo],
-) -> Result<Vec<bool>, AllocError>
-    requires { AreNumbered nodes.now roots.now }
-    ensures { IfOk result (λ marks. AreReaching (trees_at nodes.now roots.now) marks.items) }
-{
-    let users = users_of(alloc, nodes, roots)?;
-    let mut marks = marks_of(alloc, users.as_slice())?;
-    marks.pop();
-    Ok(marks)
-}
-
 /// Whether a node is neither prose nor a faulty block.
 fn is_clear(node: &Node<'_>) -> bool
     ensures { result ≡ spec.is_clear node.now }
@@ -236,8 +221,10 @@ pub(crate) fn reaching(
     ensures { IfOk result (λ marks. AreReaching (trees_at nodes.now roots.now) marks.items) }
 {
     if are_clear(nodes) {
-        no_marks(alloc, roots.len())
-    } else {
-        reaching_by_uses(alloc, nodes, roots)
+        return no_marks(alloc, roots.len());
     }
+    let users = users_of(alloc, nodes, roots)?;
+    let mut marks = marks_of(alloc, users.as_slice())?;
+    marks.pop();
+    Ok(marks)
 }

@@ -23,21 +23,27 @@ use abnf_syntax::{MAX_NESTING, Rule, Spare};
 use ls_lists::List;
 use std::alloc::{AllocError, Global};
 
+/// What the nodes of rules are made with: the names of all rules, by which references are numbered, and memory.
+#[derive(Clone, Copy)]
+struct Numbering<'n, 't> {
+    alloc: Global,
+    names: &'n RuleNames<'t>,
+}
+
 /// The alternatives of a rule, or the opaque one where none is known, whose numbers are added to `numbers`.
 fn push_known<'t>(
-    alloc: Global,
-    names: &RuleNames<'t>,
+    numbering: &Numbering<'_, 't>,
     rule: &Option<Rule<'t>>,
     nodes: &mut Vec<Node<'t>>,
     numbers: &mut List<NodeNo>,
 ) -> Result<(), AllocError>
-    ensures alternatives { OnOk result (AddsTrees (alternatives_known (rule_number (all_names names.now)) rule.now) nodes.old.items nodes.new.items numbers.old numbers.new) }
+    ensures alternatives { OnOk result (AddsTrees (alternatives_known (rule_number (all_names numbering.now.names.now)) rule.now) nodes.old.items nodes.new.items numbers.old numbers.new) }
     ensures kept { OnOk result (length nodes.old.items ≤ length nodes.new.items) }
 {
     match rule {
         Some(rule) => push_concatenations(
-            alloc,
-            names,
+            numbering.alloc,
+            numbering.names,
             MAX_NESTING,
             rule.body.as_slice(),
             nodes,
@@ -53,19 +59,18 @@ fn push_known<'t>(
 
 /// The alternatives that a section's block says, whose numbers are added to `numbers`.
 fn push_alternatives<'t>(
-    alloc: Global,
+    numbering: &Numbering<'_, 't>,
     spare: &mut Spare<'t>,
-    names: &RuleNames<'t>,
     section: &Section<'t>,
     nodes: &mut Vec<Node<'t>>,
     numbers: &mut List<NodeNo>,
 ) -> Result<(), AllocError>
     ensures alternatives { OnOk result ((tells : Result Rule SyntaxFault) → IsSaidBy section.now tells
-        → AddsTrees (rules.alternatives_said (rule_number (all_names names.now)) tells) nodes.old.items nodes.new.items numbers.old numbers.new) }
+        → AddsTrees (rules.alternatives_said (rule_number (all_names numbering.now.names.now)) tells) nodes.old.items nodes.new.items numbers.old numbers.new) }
     ensures kept { OnOk result (length nodes.old.items ≤ length nodes.new.items) }
 {
-    let rule = rule_of(alloc, spare, section)?;
-    push_known(alloc, names, &rule, nodes, numbers)?;
+    let rule = rule_of(numbering.alloc, spare, section)?;
+    push_known(numbering, &rule, nodes, numbers)?;
     if let Some(rule) = rule {
         spare.keep(rule);
     }
@@ -74,20 +79,19 @@ fn push_alternatives<'t>(
 
 /// The same if the section counts.
 fn push_if<'t>(
-    alloc: Global,
+    numbering: &Numbering<'_, 't>,
     counts: bool,
     spare: &mut Spare<'t>,
-    names: &RuleNames<'t>,
     section: &Section<'t>,
     nodes: &mut Vec<Node<'t>>,
     numbers: &mut List<NodeNo>,
 ) -> Result<(), AllocError>
     ensures alternatives { OnOk result ((tells : Result Rule SyntaxFault) → IsSaidBy section.now tells
-        → AddsTrees (if counts then rules.alternatives_said (rule_number (all_names names.now)) tells else []) nodes.old.items nodes.new.items numbers.old numbers.new) }
+        → AddsTrees (if counts then rules.alternatives_said (rule_number (all_names numbering.now.names.now)) tells else []) nodes.old.items nodes.new.items numbers.old numbers.new) }
     ensures kept { OnOk result (length nodes.old.items ≤ length nodes.new.items) }
 {
     if counts {
-        push_alternatives(alloc, spare, names, section, nodes, numbers)
+        push_alternatives(numbering, spare, section, nodes, numbers)
     } else {
         Ok(())
     }
@@ -105,27 +109,25 @@ fn adds(section: &Section<'_>) -> bool
 
 /// The alternatives that those of a name's sections say which count, whose numbers are added to `numbers`. The first one counts.
 fn push_counted<'s, 't>(
-    alloc: Global,
+    numbering: &Numbering<'_, 't>,
     spare: &mut Spare<'t>,
-    names: &RuleNames<'t>,
     sections: &Group<Listed<'s, 't>>,
     nodes: &mut Vec<Node<'t>>,
     numbers: &mut List<NodeNo>,
 ) -> Result<(), AllocError>
     ensures alternatives { OnOk result ((definitions : List spec.Definition) → spec.AreTold sections.now definitions
-        → AddsTrees (flat_map (spec.alternatives_of (rule_number (all_names names.now))) (spec.counted_among definitions)) nodes.old.items nodes.new.items numbers.old numbers.new) }
+        → AddsTrees (flat_map (spec.alternatives_of (rule_number (all_names numbering.now.names.now))) (spec.counted_among definitions)) nodes.old.items nodes.new.items numbers.old numbers.new) }
     ensures kept { OnOk result (length nodes.old.items ≤ length nodes.new.items) }
 {
     let first = sections.first.section;
-    push_alternatives(alloc, spare, names, first, nodes, numbers)?;
+    push_alternatives(numbering, spare, first, nodes, numbers)?;
     let mut is_defined = !adds(first);
     for listed in sections.rest.as_slice() {
         let adds = adds(listed.section);
         push_if(
-            alloc,
+            numbering,
             adds | !is_defined,
             spare,
-            names,
             listed.section,
             nodes,
             numbers,
@@ -137,56 +139,61 @@ fn push_counted<'s, 't>(
 
 /// The rule whose name has these sections.
 fn push_rule<'s, 't>(
-    alloc: Global,
+    numbering: &Numbering<'_, 't>,
     spare: &mut Spare<'t>,
-    names: &RuleNames<'t>,
     sections: &Group<Listed<'s, 't>>,
     nodes: &mut Vec<Node<'t>>,
 ) -> Result<(), AllocError>
     ensures { OnOk result ((definitions : List spec.Definition) → spec.AreTold sections.now definitions
-        → AddsNodes (subparts (spec.tree_of (rule_number (all_names names.now)) definitions)) nodes.old.items nodes.new.items) }
+        → AddsNodes (subparts (spec.tree_of (rule_number (all_names numbering.now.names.now)) definitions)) nodes.old.items nodes.new.items) }
 {
     let at = nodes.len();
-    let mut numbers = List::new(alloc);
+    let mut numbers = List::new(numbering.alloc);
     nodes.push(Node::Opaque)?;
-    push_counted(alloc, spare, names, sections, nodes, &mut numbers)?;
+    push_counted(numbering, spare, sections, nodes, &mut numbers)?;
     fill(nodes, at, Node::Alt(numbers));
     Ok(())
 }
 
 /// The rules of the text, by the sections of each, whose roots' numbers are added to `roots`.
 fn push_own<'s, 't>(
-    alloc: Global,
+    numbering: &Numbering<'_, 't>,
     spare: &mut Spare<'t>,
-    names: &RuleNames<'t>,
     own: &[Group<Listed<'s, 't>>],
     nodes: &mut Vec<Node<'t>>,
     roots: &mut List<NodeNo>,
 ) -> Result<(), AllocError>
     ensures { OnOk result ((definitions : List (List spec.Definition)) → spec.AllTold own.now definitions
-        → AddsTrees (map (spec.tree_of (rule_number (all_names names.now))) definitions) nodes.old.items nodes.new.items roots.old roots.new) }
+        → AddsTrees (map (spec.tree_of (rule_number (all_names numbering.now.names.now))) definitions) nodes.old.items nodes.new.items roots.old roots.new) }
 {
     for sections in own {
         roots.push(NodeNo::new(nodes.len()))?;
-        push_rule(alloc, spare, names, sections, nodes)?;
+        push_rule(numbering, spare, sections, nodes)?;
     }
     Ok(())
 }
 
 /// All rules, those of the text first.
 fn push_rules<'s, 't>(
-    alloc: Global,
+    numbering: &Numbering<'_, 't>,
     spare: &mut Spare<'t>,
-    names: &RuleNames<'t>,
     own: &[Group<Listed<'s, 't>>],
     needed: &[Core],
     nodes: &mut Vec<Node<'t>>,
     roots: &mut List<NodeNo>,
 ) -> Result<(), AllocError>
-    ensures { OnOk result ((blocks : List said.Block) → spec.AreDefined blocks names.now.0 own.now → spec.AreNames blocks names.now → map table.core_of needed.now ≡ rules.needed blocks → AddsTrees (rules.rules_of blocks) nodes.old.items nodes.new.items roots.old roots.new) }
+    ensures { OnOk result ((blocks : List said.Block) → spec.AreDefined blocks numbering.now.names.now.0 own.now → spec.AreNames blocks numbering.now.names.now → map table.core_of needed.now ≡ rules.needed blocks → AddsTrees (rules.rules_of blocks) nodes.old.items nodes.new.items roots.old roots.new) }
 {
-    push_own(alloc, spare, names, own, nodes, roots)?;
-    push_needed(alloc, names.own().len(), names.core(), needed, nodes, roots)
+    push_own(numbering, spare, own, nodes, roots)?;
+    let names = numbering.names;
+    push_needed(
+        numbering.alloc,
+        names.own().len(),
+        names.core(),
+        needed,
+        nodes,
+        roots,
+    )
 }
 
 /// The nodes of all rules, and the numbers of their roots. There is room for so many nodes at once.
@@ -202,9 +209,8 @@ fn numbered_rules<'s, 't>(
     let mut nodes = Vec::with_capacity(alloc, room)?;
     let mut roots = List::new(alloc);
     let mut spare = Spare::new(alloc);
-    push_rules(
-        alloc, &mut spare, names, own, needed, &mut nodes, &mut roots,
-    )?;
+    let numbering = Numbering { alloc, names };
+    push_rules(&numbering, &mut spare, own, needed, &mut nodes, &mut roots)?;
     // What looks through the nodes needs memory of its own beside them.
     nodes.shrink_to_fit();
     Ok((nodes, roots.into_vec()))

@@ -12,7 +12,7 @@ use Rattle.abnf_parts.specs.Names.{Name, rule_number}
 use Rattle.abnf_parts.specs.Core.{core_rules, core_name, core_needs, is_needed}
 use Rattle.abnf_parts.proofs.NameLaws.{same_is, same_sym}
 use Rattle.abnf_parts.proofs.NeededLaws.{any_folded}
-use Rattle.abnf_productive.specs.Yields.{Yields, SomeYields}
+use Rattle.abnf_lint.specs.Yields.{Yields, SomeYields}
 use Rattle.abnf_digests.specs.Gists.{relinked}
 use Rattle.abnf_digests.specs.Digests.{Digest, head_name_by, defines_by, adds_by, counted_by, defined_by, undefined_by, names_by, said_with, rule_by}
 use Rattle.abnf_outcome.specs.Holding.{IsOfCore, IsAlternative, HoldsBy}

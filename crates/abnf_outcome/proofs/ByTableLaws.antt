@@ -1,10 +1,12 @@
 -- What is told by flags and marks beside a table.
 use Rattle.std.proofs.Common.{◌≡◌, ◌∙◌, ℕ, suc, Bool, false, Option, Some, List, [], ◌∷◌, ◌++◌, length, take, refl, sym, ap, subst, append_assoc, append-nil, arith}
 use Rattle.std.specs.Prelude.{Contains, not, ◌&&◌, slice_get}
+use Rattle.std.specs.List.{list_any}
 use Rattle.std.specs.Option.{option_map_or}
+use Rattle.std.specs.Str.{bytes_eq}
 use Rattle.abnf_parts.specs.Core.{is_core_name}
 use Rattle.abnf_parts.specs.Names.{Name}
-use Rattle.abnf_digests.specs.Digests.{Digest}
+use Rattle.abnf_digests.specs.Digests.{Digest, defined_by}
 use Rattle.abnf_digests.specs.Roles.{Role}
 use Rattle.abnf_outcome.specs.declared.found_in.BlockTold.{BlockTold}
 use Rattle.abnf_outcome.specs.ByTable.{AreDefinedMarks, AreFlagged, IsFlagged, all_told, strange_by, told_of_flags}
@@ -18,7 +20,7 @@ use Rattle.abnf_outcome.proofs.ToldMarks.{told_is}
 module _ (digests : List Digest) (held led : Name → Bool) (table : List Name) (defined : List Bool) (are_held : AreHoldingMarks digests held) (are_led : AreHeadsLed digests held led)
     (are_defined : AreDefinedMarks digests table defined) where
   -- where the marks say which names are defined, they say which are strange
-  strange_as : (name : Name) → strange_by table defined name ≡ is_strange digests name
+  strange_as : (name : Name) → strange_by table defined name ≡ is_strange (λ own. list_any (bytes_eq own) (defined_by digests)) name
   strange_as name = ap (λ mark. not (is_core_name name) && not mark) (are_defined name)
 
   told_of_is : (before : List Digest) (digest : Digest) (told : BlockTold) → Contains digests digest → IsFlagged before held led digest told → IsToldOf digests before digest (told_of_flags told (strange_by table defined))

@@ -4,6 +4,7 @@ use Rattle.std.specs.Prelude.{Contains, slice_get, codes, IfSome}
 use Rattle.std.specs.List.{list_any, AllByRecursion}
 use Rattle.std.specs.Str.{bytes_eq}
 use Rattle.std.proofs.lemmas.Bool.{or_right}
+use Rattle.std.proofs.lemmas.Option.{same_Some}
 use Rattle.abnf_parts.specs.declared.core_rule.Core.{Core}
 use Rattle.abnf_parts.specs.declared.core_rule.Core.TheVariants.{Alpha, Bit, Char, Cr, Crlf, Ctl, Digit, Dquote, Hexdig, Htab, Lf, Lwsp, Octet, Sp, Vchar, Wsp}
 use Rattle.abnf_parts.specs.Part.{Part, ref, opaque}
@@ -12,11 +13,11 @@ use Rattle.abnf_parts.specs.Core.{CoreRule, core_rules, core_name, is_needed, cr
 use Rattle.abnf_parts.specs.CoreTable.{core_of, users_of, is_core_wanted}
 use Rattle.abnf_parts.specs.Reach.{ReachesBy}
 use Rattle.abnf_parts.proofs.NeededLaws.{needed_is}
-use Rattle.abnf_productive.specs.Yields.{Yields, RuleYields}
+use Rattle.abnf_lint.specs.Yields.{Yields, RuleYields}
 use Rattle.abnf_digests.specs.Digests.{Digest, undefined_by, needed_by, core_number_by, core_by, rules_by}
 use Rattle.abnf_outcome.proofs.Elements.{first_or_later, none_in, kept, kept_back}
 use Rattle.abnf_outcome.proofs.Everywhere.{Everywhere, at_each}
-use Rattle.abnf_outcome.proofs.Standing.{IsInner, inner_rule, inner_number, some_same}
+use Rattle.abnf_outcome.proofs.Standing.{IsInner, inner_rule, inner_number}
 
 all_of : {X : Type 0} (P : X → Type 0) (xs : List X) → AllByRecursion P xs → (x : X) → Contains xs x → P x
 all_of P [] a x c = none_in x c
@@ -131,7 +132,7 @@ module _ (digests : List Digest) where
 
   inside_of : (name : Name) (r : ℕ) (root : Part) → IsInner digests name r → slice_get (rules_by digests) r ≡ Some root → Everywhere Inside ⊥ root
   inside_of name r root inner e =
-      subst (Everywhere Inside ⊥) (some_same (core_by digests inner.core) root (sym inner.is ∙ e))
+      subst (Everywhere Inside ⊥) (same_Some (core_by digests inner.core) root (sym inner.is ∙ e))
       (each_core IsInside each_inside inner.core (kept_back (is_needed unknown) core_rules inner.core inner.needed).0)
 
   pub core_leads_nowhere : (uses : ℕ) (name : Name) (r : ℕ) → IsInner digests name r → ReachesBy (rules_by digests) uses r → ⊥

@@ -11,7 +11,7 @@ use Rattle.std.proofs.lemmas.Option.{slice_get_within}
 use Rattle.abnf_parts.specs.Names.{Name, rule_number}
 use Rattle.abnf_parts.specs.Core.{is_core_name}
 use Rattle.abnf_parts.proofs.NameLaws.{same_is}
-use Rattle.abnf_productive.specs.Marks.{mark_at}
+use Rattle.abnf_lint.specs.Marks.{mark_at}
 use Rattle.abnf_digests.specs.Digests.{Digest, defines_by}
 use Rattle.abnf_digests.specs.Roles.{role_by}
 use Rattle.abnf_outcome.specs.declared.digest.HeadNumber.{HeadNumber}

@@ -3,9 +3,6 @@ use Rattle.std.proofs.Common.{◌≡◌, ℕ, ◌<◌, Bool, true, false, List, 
 use Rattle.std.specs.Prelude.{◌&&◌, flat_map, if◌then◌else◌}
 use Rattle.std.specs.List.{AllByRecursion}
 use Rattle.std.specs.Option.{option_map_or}
-use Rattle.std.specs.Ordering.{is_lt, nat_cmp}
-use Rattle.std.specs.declared.cmp.Ordering.TheVariants.{Less, Equal}
-use Rattle.std.proofs.lemmas.Bool.{lt-ltb, le-ltb, eq-eqb}
 use Rattle.ls_text.specs.declared.position.Place.{Place}
 use Rattle.abnf_token.specs.declared.token.Kind.{Kind}
 use Rattle.abnf_token.specs.declared.token.Kind.TheVariants.{Repeat, Number}
@@ -28,28 +25,16 @@ use Rattle.abnf_names.proofs.Ascending.{Ahead, Point, Run, ahead_behind, ahead_t
 use Rattle.abnf_lint.specs.declared.finding.Code.{Code}
 use Rattle.abnf_lint.specs.declared.finding.Code.TheVariants as c
 use Rattle.abnf_lint.specs.declared.finding.Finding.{Finding}
-use Rattle.abnf_lint.specs.Order.{FindingsAscend, Key, code_row, finding_before, key, key_cmp}
-use Rattle.abnf_digests.specs.Quiet.{is_empty_number}
+use Rattle.abnf_lint.specs.Found.{body_found, fault_found, finding_if, item_found, items_found, number_found, use_found}
+use Rattle.abnf_lint.specs.Order.{FindingsAscend, code_row, finding_before, key}
+use Rattle.abnf_lint.proofs.AllFound.{all_by, all_joined, if_all}
+use Rattle.abnf_lint.proofs.KeyOrder.{by_line, by_row, by_start}
+use Rattle.abnf_lint.specs.Empty.{is_empty_number}
 use Rattle.abnf_outcome.specs.ToldOfBlock.{ToldOfBlock}
-use Rattle.abnf_outcome.specs.Found.{finding_if, fault_found, use_found, number_found, item_found, items_found, body_found, found_at_head, found_by}
+use Rattle.abnf_outcome.specs.Found.{found_at_head, found_by}
 use Rattle.abnf_outcome.proofs.FaultFrom.{headed, FaultFrom, ItemFrom, fault_from}
 
 -- ---- keys
-
-cmp_lt : (m n : ℕ) → m < n → nat_cmp m n ≡ Less
-cmp_lt m n h = rw (lt-ltb m n h) refl
-
-cmp_self : (m : ℕ) → nat_cmp m m ≡ Equal
-cmp_self m = rw (le-ltb m m (omega arith), eq-eqb m m refl) refl
-
-by_line : (p q : Key) → p.0 < q.0 → is_lt (key_cmp p q) ≡ true
-by_line p q h = rw (cmp_lt p.0 q.0 h) refl
-
-by_start : (p q : Key) → p.0 ≡ q.0 → p.1 < q.1 → is_lt (key_cmp p q) ≡ true
-by_start p q e h = rw (ap (λ n. nat_cmp p.0 n) (sym e) ∙ cmp_self p.0, cmp_lt p.1 q.1 h) refl
-
-by_row : (p q : Key) → p.0 ≡ q.0 → p.1 ≡ q.1 → p.2 < q.2 → is_lt (key_cmp p q) ≡ true
-by_row p q e f h = rw (ap (λ n. nat_cmp p.0 n) (sym e) ∙ cmp_self p.0, ap (λ n. nat_cmp p.1 n) (sym f) ∙ cmp_self p.1, cmp_lt p.2 q.2 h) refl
 
 abbrev pub IsBefore : Finding → Finding → Type 0
 IsBefore g h = finding_before g h ≡ true
@@ -59,24 +44,11 @@ before_by_line g h less = by_line (key g) (key h) less
 
 -- ---- lists
 
-pub all_joined : (P : Finding → Type 0) (xs ys : List Finding) → AllByRecursion P xs → AllByRecursion P ys → AllByRecursion P (xs ++ ys)
-all_joined P [] ys h k = k
-all_joined P (x ∷ xs) ys h k = (h.0, all_joined P xs ys h.1 k)
-
-pub all_by : (P Q : Finding → Type 0) (xs : List Finding) → ((x : Finding) → P x → Q x) → AllByRecursion P xs → AllByRecursion Q xs
-all_by P Q [] g h = tt
-all_by P Q (x ∷ xs) g h = (g x h.0, all_by P Q xs g h.1)
-
 pub ascend_joined : (P Q : Finding → Type 0) (xs ys : List Finding) → ((g h : Finding) → P g → Q h → IsBefore g h) → AllByRecursion P xs → AllByRecursion Q ys →
     FindingsAscend xs → FindingsAscend ys → FindingsAscend (xs ++ ys)
 ascend_joined P Q [] ys less p q a b = b
 ascend_joined P Q (x ∷ xs) ys less p q a b =
     (all_joined (IsBefore x) xs ys a.0 (all_by Q (IsBefore x) ys (λ h k. less x h p.0 k) q), ascend_joined P Q xs ys less p.1 q a.1 b)
-
-if_all : (P : Finding → Type 0) (b : Bool) (code : Code) (place : Place) (name : List ℕ) → P (record { place = place; code = code; name = name }) →
-    AllByRecursion P (finding_if b code place name)
-if_all P true code place name h = (h, tt)
-if_all P false code place name h = tt
 
 if_ascends : (b : Bool) (code : Code) (place : Place) (name : List ℕ) → FindingsAscend (finding_if b code place name)
 if_ascends true code place name = (tt, tt)

@@ -1,56 +1,39 @@
 -- What is found in the blocks of a text by what is told of them, one after the other, are the rows of the table.
-use Rattle.std.proofs.Common.{◌≡◌, ℕ, ◌<◌, ◌≤◌, Bool, List, [], ◌∷◌, ◌++◌, inl, inr, map, Option, Some, None, option_map, refl, sym, ap, subst, ◌∙◌, append-nil, append_assoc, arith}
+use Rattle.std.proofs.Common.{◌≡◌, ℕ, ◌<◌, ◌≤◌, List, [], ◌∷◌, ◌++◌, inl, inr, map, Option, refl, sym, ap, subst, ◌∙◌, append-nil, append_assoc, arith}
 use Rattle.std.specs.Prelude.{◌↔◌, Contains}
 use Rattle.std.specs.List.{AllByRecursion}
-use Rattle.std.specs.Option.{option_map_or}
 use Rattle.std.proofs.lemmas.List.{map-append}
 use Rattle.std.proofs.lemmas.List.Elements.{Contains-append_cases, Contains-append_left, Contains-append_right}
 use Rattle.abnf_token.specs.Classes.{Text}
-use Rattle.abnf_token.specs.declared.token.Kind.{Kind}
-use Rattle.abnf_syntax.specs.declared.block.Head.{Head}
 use Rattle.abnf_syntax.specs.declared.item.Item.{Item}
 use Rattle.abnf_syntax.specs.declared.fault.SyntaxFault.{SyntaxFault}
 use Rattle.abnf_syntax.specs.Blocks.{line_texts, AreBlocks}
-use Rattle.abnf_syntax.specs.Grammar.{kind_of}
-use Rattle.abnf_syntax.specs.Heads.{head_of}
-use Rattle.abnf_syntax.proofs.Bare.{bare, bare_head, head_bare, same_items}
-use Rattle.abnf_parts.specs.Names.{Name}
-use Rattle.abnf_names.specs.Said.{Block, BlockSays, IsWithin, AreWithin, AreSaid}
+use Rattle.abnf_syntax.proofs.Bare.{bare, same_items}
+use Rattle.abnf_names.specs.Said.{Block, IsWithin, AreWithin, AreSaid}
 use Rattle.abnf_names.specs.Shown.{fault_shown, HasFault}
 use Rattle.abnf_names.proofs.Ascending.{block_run}
 use Rattle.abnf_names.proofs.OneGrammar.{Plain, same_block, same_seen}
 use Rattle.abnf_lint.specs.declared.finding.Finding.{Finding}
 use Rattle.abnf_lint.specs.Order.{FindingsAscend}
 use Rattle.abnf_lint.specs.Rows.{RowHolds, RowStands, AreRows}
+use Rattle.abnf_lint.proofs.AllFound.{all_by, all_joined}
+use Rattle.abnf_lint.proofs.FoundBlock.{found_are}
 use Rattle.abnf_lint.proofs.Member.{first_in, later_in, none_in}
+use Rattle.abnf_lint.proofs.OneFinding.{found_bare}
+use Rattle.abnf_lint.proofs.Stands.{within_says}
 use Rattle.abnf_digests.specs.Digests.{Digest, digest_of}
 use Rattle.abnf_digests.specs.SameLines.{AreSameLines}
 use Rattle.abnf_digests.proofs.RowLines.{row_within}
 use Rattle.abnf_digests.proofs.SameDigests.{same_digests}
-use Rattle.abnf_outcome.specs.ToldOfBlock.{ToldOfBlock, IsToldOf}
-use Rattle.abnf_outcome.specs.Found.{fault_found, item_found, items_found, body_found, found_at_head, found_by, AllAreTold, all_found}
+use Rattle.abnf_outcome.specs.ToldOfBlock.{ToldOfBlock, IsToldOf, head_told}
+use Rattle.abnf_outcome.specs.Found.{found_by, AllAreTold, all_found}
 use Rattle.abnf_outcome.proofs.ToldRows.{NamesTell, rows_told}
-use Rattle.abnf_outcome.proofs.Found.{found_are}
-use Rattle.abnf_outcome.proofs.FoundOrder.{found_ascends, ascend_joined, all_by, all_joined, before_by_line}
+use Rattle.abnf_outcome.proofs.FoundOrder.{found_ascends, ascend_joined, before_by_line}
 
 -- ---- what is found is the same for all lists of blocks that a text has
 
-items_bare : (strange : Name → Bool) (before : Kind) (xs : List Item) → items_found strange before (map bare xs) ≡ items_found strange before xs
-items_bare strange before [] = refl
-items_bare strange before (x ∷ xs) = ap (λ l. item_found strange before x ++ l) (items_bare strange (kind_of x) xs)
-
-body_bare : (strange : Name → Bool) (xs : List Item) → body_found strange (map bare xs) ≡ body_found strange xs
-body_bare strange [] = refl
-body_bare strange (x ∷ xs) = items_bare strange (kind_of x) xs
-
-head_found_bare : (told : ToldOfBlock) (o : Option Head) → option_map_or (found_at_head told) (option_map bare_head o) [] ≡ option_map_or (found_at_head told) o []
-head_found_bare told None = refl
-head_found_bare told (Some head) = refl
-
-found_bare : (told : ToldOfBlock) (items : List Item) (fault : Option SyntaxFault) → found_by told (map bare items) fault ≡ found_by told items fault
-found_bare told items fault =
-    (λ i. (ap (λ o. option_map_or (found_at_head told) o []) (head_bare items) ∙ head_found_bare told (head_of items)) i
-    ++ option_map_or fault_found fault (body_bare told.strange items i))
+same_bare : (told : ToldOfBlock) (items : List Item) (fault : Option SyntaxFault) → found_by told (map bare items) fault ≡ found_by told items fault
+same_bare told = found_bare (λ head. head_told told) (λ head. refl) told.strange
 
 abbrev seen : Block → ToldOfBlock → List Finding
 seen block told = found_by told block.items (fault_shown block.said)
@@ -59,7 +42,7 @@ seen_same : (ls : List Text) (bounds : ℕ × ℕ) (b other : Block) → IsWithi
 seen_same ls bounds b other p q =
     let items : map bare b.items ≡ map bare other.items = same_items ls bounds.0 bounds.1 b.items other.items p.items q.items in
     let faults : fault_shown b.said ≡ fault_shown other.said = ap (λ (x : Plain). x.2) (same_block ls bounds b other p q) in
-    (λ i told. (sym (found_bare told b.items (fault_shown b.said)) ∙ ((λ j. found_by told (items j) (faults j)) ∙ found_bare told other.items (fault_shown other.said))) i)
+    (λ i told. (sym (same_bare told b.items (fault_shown b.said)) ∙ ((λ j. found_by told (items j) (faults j)) ∙ same_bare told other.items (fault_shown other.said))) i)
 
 digest_same : (ls : List Text) (bounds : ℕ × ℕ) (b other : Block) → IsWithin ls bounds b → IsWithin ls bounds other → digest_of b ≡ digest_of other
 digest_same ls bounds b other p q =
@@ -79,13 +62,6 @@ one_found : (text : List ℕ) (bs cs : List Block) → AreSaid text bs → AreSa
 one_found text bs cs p q tolds = by_seen tolds bs ∙ (ap (found_seen tolds) (same_seen seen seen_same text bs cs p q) ∙ sym (by_seen tolds cs))
 
 -- ---- blocks of a text
-
-within_says : (ls : List Text) (bounds : List (ℕ × ℕ)) (before : List Block) (block : Block) (after : List Block) → AreWithin ls bounds (before ++ block ∷ after) →
-    BlockSays block.items block.said
-within_says ls [] [] block after h = absurd h
-within_says ls (b ∷ bounds) [] block after h = h.0.says
-within_says ls [] (other ∷ before) block after h = absurd h
-within_says ls (b ∷ bounds) (other ∷ before) block after h = within_says ls bounds before block after h.1
 
 all_in : (P : Finding → Type 0) (xs : List Finding) → ((g : Finding) → Contains xs g → P g) → AllByRecursion P xs
 all_in P [] h = tt
@@ -109,7 +85,7 @@ module _ (tell : NamesTell) (text : List ℕ) (blocks : List Block) (of_text : A
       Contains (found_by told block.items (fault_shown block.said)) g ↔ RowHolds blocks before block g.place g.name g.code
   found_holds before block after e told is g =
       let rows = rows_told tell text blocks before block after of_text e told is g.place g.name g.code in
-      let found = found_are told block.items (fault_shown block.said) (fault_of_block before block after e) g in
+      let found = found_are (λ head. head_told told) told.strange block.items (fault_shown block.said) (fault_of_block before block after e) g in
       (λ h. rows.1 (found.0 h), λ h. found.1 (rows.0 h))
 
   told_next : (before rest : List Block) (block : Block) (tolds : List ToldOfBlock) → AllAreTold all (map digest_of before ++ digest_of block ∷ []) (map digest_of rest) tolds →

@@ -8,7 +8,7 @@ use Rattle.std.proofs.lemmas.List.{get_or-set_same, get_or-set_other, length-set
 use Rattle.std.proofs.lemmas.List.Folds.{list_any-append}
 use Rattle.std.proofs.lemmas.Option.{slice_get_within, slice_get-get_or, get_or_from_slice_get}
 use Rattle.abnf_parts.specs.Names.{Name}
-use Rattle.abnf_productive.specs.Marks.{mark_at}
+use Rattle.abnf_lint.specs.Marks.{mark_at}
 use Rattle.abnf_digests.specs.Digests.{Digest}
 use Rattle.abnf_outcome.specs.declared.digest.HeadNumber.{HeadNumber}
 use Rattle.abnf_outcome.specs.declared.digest.BlockDigest.{BlockDigest}

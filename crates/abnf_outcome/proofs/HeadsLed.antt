@@ -6,7 +6,7 @@ use Rattle.std.specs.Option.{option_map_or}
 use Rattle.std.proofs.lemmas.Option.{slice_get-get_or}
 use Rattle.abnf_parts.specs.Core.{is_core_name}
 use Rattle.abnf_parts.specs.Names.{Name}
-use Rattle.abnf_productive.specs.Marks.{mark_at}
+use Rattle.abnf_lint.specs.Marks.{mark_at}
 use Rattle.abnf_outcome.specs.declared.digest.BlockDigest.{BlockDigest}
 use Rattle.abnf_outcome.specs.declared.heads.HeadRole.{HeadRole}
 use Rattle.abnf_outcome.specs.declared.word.Word.{Word}

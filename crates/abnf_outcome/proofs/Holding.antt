@@ -4,7 +4,7 @@ use Rattle.std.specs.Prelude.{Contains}
 use Rattle.std.proofs.lemmas.List.{map-append}
 use Rattle.abnf_parts.specs.Part.{Part, Parts, quoted, series, span, seq, alt, rep, ref, opaque, end, next, subparts, all_subparts}
 use Rattle.abnf_parts.specs.Names.{Name}
-use Rattle.abnf_productive.specs.Yields.{Yields, EachYields, SomeYields}
+use Rattle.abnf_lint.specs.Yields.{Yields, EachYields, SomeYields}
 use Rattle.abnf_digests.specs.Gists.{relinked, all_relinked}
 use Rattle.abnf_outcome.specs.Holding.{Holds, EachHolds, SomeHolds}
 use Rattle.abnf_outcome.proofs.Elements.{mapped, mapped_back}

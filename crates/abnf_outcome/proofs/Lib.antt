@@ -11,7 +11,6 @@ pub mod Marking
 pub mod Undefined
 pub mod ToldMarks
 pub mod ToldRows
-pub mod Found
 pub mod FaultFrom
 pub mod FoundOrder
 pub mod FoundRows

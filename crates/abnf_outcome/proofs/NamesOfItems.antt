@@ -32,7 +32,8 @@ use Rattle.abnf_names.specs.Said.{Block, BlockSays}
 use Rattle.abnf_names.specs.Shown.{fault_shown}
 use Rattle.abnf_names.specs.Places.{is_touched, named, places_in, use_after, uses_after}
 use Rattle.abnf_names.specs.Rules.{alternatives_said}
-use Rattle.abnf_digests.specs.Gists.{gist, is_above}
+use Rattle.abnf_lint.specs.Empty.{is_above}
+use Rattle.abnf_digests.specs.Gists.{gist}
 use Rattle.abnf_digests.specs.Digests.{used_names, digest_of, no_number}
 use Rattle.abnf_outcome.specs.Words.{names_in}
 use Rattle.abnf_outcome.proofs.Elements.{first_in, first_or_later, none_in}

@@ -23,16 +23,18 @@ use Rattle.abnf_names.specs.Said.{Block, BlockSays}
 use Rattle.abnf_names.specs.Shown.{fault_shown}
 use Rattle.abnf_names.specs.Places.{is_touched, named, places_in, use_after, uses_after}
 use Rattle.abnf_lint.specs.declared.finding.Code.TheVariants as c
-use Rattle.abnf_productive.specs.Marks.{mark_at}
+use Rattle.abnf_lint.specs.Marks.{mark_at}
+use Rattle.abnf_lint.specs.Empty.{is_empty_number}
+use Rattle.abnf_lint.specs.Found.{body_found, fault_found, finding_if, items_found, number_found, use_found}
 use Rattle.abnf_digests.specs.Digests.{digest_of, used_names}
-use Rattle.abnf_digests.specs.Quiet.{has_own_findings, is_empty_number}
+use Rattle.abnf_digests.specs.Quiet.{has_own_findings}
 use Rattle.abnf_outcome.specs.declared.digest.BlockDigest.{BlockDigest}
 use Rattle.abnf_outcome.specs.declared.found_in.BlockTold.{BlockTold}
 use Rattle.abnf_outcome.specs.declared.outcome.Outcome.{Outcome}
 use Rattle.abnf_outcome.specs.declared.word.Word.{Word}
 use Rattle.abnf_outcome.specs.declared.word.Word.TheVariants as w
 use Rattle.abnf_outcome.specs.own.Flags.{is_marked_name}
-use Rattle.abnf_outcome.specs.Found.{body_found, fault_found, finding_if, found_at_head, found_by, items_found, number_found, use_found}
+use Rattle.abnf_outcome.specs.Found.{found_at_head, found_by}
 use Rattle.abnf_outcome.specs.KeptBlocks.{IsKept}
 use Rattle.abnf_outcome.specs.Outcomes.{IsOutcome, IsQuiet, strange_in, told_in}
 use Rattle.abnf_outcome.specs.Stored.{IsStored, Stored}

@@ -5,7 +5,7 @@ use Rattle.std.specs.Option.{option_map_or}
 use Rattle.std.proofs.lemmas.Option.{slice_get_within}
 use Rattle.abnf_parts.specs.Core.{is_core_name}
 use Rattle.abnf_parts.specs.Names.{Name, rule_number}
-use Rattle.abnf_productive.specs.Marks.{mark_at}
+use Rattle.abnf_lint.specs.Marks.{mark_at}
 use Rattle.abnf_digests.specs.Digests.{Digest}
 use Rattle.abnf_outcome.specs.declared.digest.BlockDigest.{BlockDigest}
 use Rattle.abnf_outcome.specs.declared.found_in.BlockTold.{BlockTold}
@@ -13,7 +13,7 @@ use Rattle.abnf_outcome.specs.declared.heads.HeadRole.{HeadRole}
 use Rattle.abnf_outcome.specs.declared.word.Word.{Word}
 use Rattle.abnf_outcome.specs.ByTable.{AreDefinedMarks, AreFlagged, all_told, name_mark, strange_by}
 use Rattle.abnf_outcome.specs.Found.{AllAreTold}
-use Rattle.abnf_outcome.specs.own.Flags.{is_strange}
+use Rattle.abnf_outcome.specs.own.Flags.{is_strange_number}
 use Rattle.abnf_outcome.specs.own.HeadRoles.{AreRoles}
 use Rattle.abnf_outcome.specs.Marked.{AreHoldingMarks}
 use Rattle.abnf_outcome.specs.Stored.{AreStored}
@@ -31,7 +31,7 @@ only_core false true = refl
 only_core false false = refl
 
 -- a name that no block defines is that of a core rule where it is marked as one
-pub all_strange : (defined core : List Bool) (passed : ℕ) (marks : List Bool) → AreMarksUpTo (is_strange defined core) passed marks → length defined ≤ passed
+pub all_strange : (defined core : List Bool) (passed : ℕ) (marks : List Bool) → AreMarksUpTo (is_strange_number defined core) passed marks → length defined ≤ passed
     → (table : List Name) (blocks : List BlockDigest) → AreHeadMarks table blocks defined → AreCoreMarks table blocks core
     → (n : ℕ) (name : Name) → rule_number table name ≡ Some n → mark_at marks n ≡ strange_by table defined name
 all_strange defined core passed marks upto all table blocks heads cores n name at =

@@ -10,7 +10,8 @@ use Rattle.abnf_parts.specs.Names.{Name, rule_number, with_name}
 use Rattle.abnf_parts.specs.Part.{Part, Parts, seq, alt, rep, ref, series}
 use Rattle.abnf_parts.specs.Tree.{join, parts}
 use Rattle.abnf_parts.proofs.Pushing.{join_several}
-use Rattle.abnf_digests.specs.Gists.{gist, gists, is_above, repeated_gist}
+use Rattle.abnf_lint.specs.Empty.{is_above}
+use Rattle.abnf_digests.specs.Gists.{gist, gists, repeated_gist}
 use Rattle.abnf_outcome.specs.declared.word.Word.{Word}
 use Rattle.abnf_outcome.specs.declared.word.Word.TheVariants as w
 use Rattle.abnf_outcome.proofs.TableLaws.{later_fold}

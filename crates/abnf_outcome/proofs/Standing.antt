@@ -5,16 +5,14 @@ use Rattle.std.specs.List.{list_any}
 use Rattle.std.specs.Option.{is_some}
 use Rattle.std.specs.Str.{bytes_eq}
 use Rattle.std.proofs.lemmas.List.{length-map}
+use Rattle.std.proofs.lemmas.Option.{same_Some}
 use Rattle.abnf_parts.specs.Names.{Name, rule_number}
 use Rattle.abnf_parts.specs.Core.{CoreRule, core_name}
 use Rattle.abnf_parts.proofs.NameLaws.{position_any, position_append, behind}
 use Rattle.abnf_rename.proofs.NameLaws.{number_get}
 use Rattle.abnf_digests.specs.Digests.{Digest, defined_by, needed_by, names_by, core_number_by, rule_by, core_by, rules_by}
-use Rattle.abnf_digests.proofs.GistLaws.{get_back, get_there}
+use Rattle.abnf_rename.proofs.MappedTrees.{get_back, get_there}
 use Rattle.abnf_outcome.proofs.Elements.{name_there, mapped, get_front, get_behind, get_contains}
-
-pub some_same : {A : Type 0} (x y : A) → ◌≡◌ {A = Option A} (Some x) (Some y) → x ≡ y
-some_same x y e = cc (e)
 
 some_place : (o : Option ℕ) → is_some o ≡ true → (q : ℕ) × (o ≡ Some q)
 some_place None h = absurd (cc (h))
@@ -64,7 +62,7 @@ module _ (digests : List Digest) where
 
   inner_by : (name : Name) (o : Option ℕ) (r : ℕ) → rule_number core_names name ≡ o → option_map (λ j. length own + j) o ≡ Some r → IsInner name r
   inner_by name None r e g = absurd (cc (g))
-  inner_by name (Some j) r e g = inner_at name j r e (some_same (length own + j) r g)
+  inner_by name (Some j) r e g = inner_at name j r e (same_Some (length own + j) r g)
 
   -- inside the core rules names stand for core rules
   pub inner_rule : (name : Name) (r : ℕ) → core_number_by digests name ≡ Some r → IsInner name r

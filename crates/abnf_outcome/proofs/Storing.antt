@@ -14,9 +14,9 @@ use Rattle.abnf_names.specs.declared.section.Section.{Section}
 use Rattle.abnf_names.specs.Said.{Block, BlockSays}
 use Rattle.abnf_names.specs.Excerpts.{Excerpt}
 use Rattle.abnf_names.specs.Sections.{IsSaidBy}
-use Rattle.abnf_digests.specs.Gists.{is_above}
+use Rattle.abnf_lint.specs.Empty.{is_above, is_empty_number}
 use Rattle.abnf_digests.specs.Digests.{Digest, digest_of, head_digest}
-use Rattle.abnf_digests.specs.Quiet.{has_own_findings, is_empty_number}
+use Rattle.abnf_digests.specs.Quiet.{has_own_findings}
 use Rattle.abnf_outcome.specs.declared.digest.HeadNumber.{HeadNumber}
 use Rattle.abnf_outcome.specs.declared.digest.BlockDigest.{BlockDigest}
 use Rattle.abnf_outcome.specs.declared.word.Word.{Word}

@@ -11,7 +11,7 @@ use Rattle.abnf_parts.specs.Core.{is_core_name}
 use Rattle.abnf_parts.specs.Names.{Name, rule_number}
 use Rattle.abnf_parts.specs.Part.{Part}
 use Rattle.abnf_parts.proofs.NameLaws.{never, same_is, same_refl}
-use Rattle.abnf_productive.specs.Marks.{mark_at}
+use Rattle.abnf_lint.specs.Marks.{mark_at}
 use Rattle.abnf_digests.specs.Digests.{Digest, defines_by, adds_by, defined_by}
 use Rattle.abnf_digests.specs.Roles.{role_by}
 use Rattle.abnf_outcome.specs.declared.digest.BlockDigest.{BlockDigest}

@@ -38,7 +38,7 @@ module _ (digests before : List Digest) (digest : Digest) (holding leading : Nam
             and_from (not (holding name)) (not (leading name)) not_held (not_has (leading name) (λ e. let k = (of_led none).0 e in h.1 k.0 k.1)),
       )
 
-  strange_is : (name : Name) → (is_strange digests name ≡ true) ↔ IsStrange digests name
+  strange_is : (name : Name) → (is_strange (λ own. list_any (bytes_eq own) (defined_by digests)) name ≡ true) ↔ IsStrange digests name
   strange_is name =
       let is_own : Bool = list_any (bytes_eq name) (defined_by digests) in (
         λ h. let k = and_parts (not (is_core_name name)) (not is_own) h in (not-true (is_core_name name) k.0, not-true is_own k.1),

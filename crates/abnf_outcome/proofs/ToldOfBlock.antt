@@ -34,7 +34,8 @@ use Rattle.abnf_names.specs.Said.{Block, BlockSays}
 use Rattle.abnf_names.specs.Places.{Named, is_touched, named, places_in, use_after, uses_after}
 use Rattle.abnf_names.specs.Rules.{alternatives_said}
 use Rattle.abnf_rename.proofs.SaidLaws.{AreFree, derived_free}
-use Rattle.abnf_digests.specs.Gists.{something, is_above, nothing, repeated_gist, gist, gists}
+use Rattle.abnf_lint.specs.Empty.{is_above}
+use Rattle.abnf_digests.specs.Gists.{something, nothing, repeated_gist, gist, gists}
 use Rattle.abnf_digests.specs.Digests.{used_names, digest_of, no_number}
 use Rattle.abnf_outcome.proofs.Elements.{first_in, first_or_later, none_in, mapped_back}
 use Rattle.abnf_outcome.proofs.Everywhere.{Everywhere, AllEverywhere, at_each}

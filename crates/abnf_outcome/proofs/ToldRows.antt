@@ -1,5 +1,5 @@
 -- A row of the table holds of a block exactly where it does by what is told of the block.
-use Rattle.std.proofs.Common.{◌≡◌, ℕ, Bool, true, false, not, List, ◌∷◌, ◌++◌, map, Option, Some, None, option_map, Result, Ok, Err, refl, sym, ap, subst, ◌∙◌}
+use Rattle.std.proofs.Common.{◌≡◌, ℕ, Bool, true, false, not, List, ◌∷◌, ◌++◌, map, Option, Some, None, option_map, refl, sym, ap, subst, ◌∙◌}
 use Rattle.std.specs.Prelude.{◌↔◌, ◌&&◌, filter, Contains}
 use Rattle.std.specs.Option.{is_some}
 use Rattle.std.proofs.lemmas.Bool.{and_from, and_parts, not-true}
@@ -7,9 +7,6 @@ use Rattle.std.proofs.lemmas.List.Elements.{Contains-append_left, Contains-appen
 use Rattle.ls_text.specs.declared.position.Place.{Place}
 use Rattle.abnf_token.specs.Folded.{lowercase}
 use Rattle.abnf_syntax.specs.declared.block.Head.{Head}
-use Rattle.abnf_syntax.specs.declared.fault.SyntaxFault.{SyntaxFault}
-use Rattle.abnf_syntax.specs.declared.fault.SyntaxFault.TheVariants as f
-use Rattle.abnf_syntax.specs.declared.tree.Rule.{Rule}
 use Rattle.abnf_syntax.specs.Heads.{head_of}
 use Rattle.abnf_parts.specs.Names.{Name, rule_number}
 use Rattle.abnf_parts.specs.Core.{core_name}
@@ -18,16 +15,17 @@ use Rattle.abnf_names.specs.Places.{Named, places_in}
 use Rattle.abnf_names.specs.Rules.{adds, defined, needed, names_of, rules_of}
 use Rattle.abnf_names.specs.Shown.{fault_shown}
 use Rattle.abnf_lint.specs.declared.finding.Code.{Code}
-use Rattle.abnf_lint.specs.declared.finding.Code.TheVariants as c
-use Rattle.abnf_lint.specs.Rows.{HasHead, AnyBases, AnyDefines, IsIdle, RowHolds}
+use Rattle.abnf_lint.specs.Rows.{AnyBases, AnyDefines, IsIdle, RowHolds}
 use Rattle.abnf_lint.specs.Unproductive.{IsUnproductive}
 use Rattle.abnf_lint.proofs.Heads.{bases_is, defines_is, has_from, from_has}
 use Rattle.abnf_lint.proofs.Member.{first_in, filter_in}
+use Rattle.abnf_lint.proofs.RowsTold as rows
+use Rattle.abnf_lint.proofs.RowsTold.{IsTold}
 use Rattle.abnf_digests.specs.Digests.{head_digest, digest_of, adds_by, defined_by, used_names}
 use Rattle.abnf_digests.specs.Roles.{Role, is_among, names_with_base, role, based_by}
 use Rattle.abnf_digests.proofs.Heads.{adds_is, defined_is, filter_is}
 use Rattle.abnf_digests.proofs.NoRows.{map_in}
-use Rattle.abnf_outcome.specs.ToldOfBlock.{IsIdleBy, ToldOfBlock, IsToldOf, HeadStands, RowTold}
+use Rattle.abnf_outcome.specs.ToldOfBlock.{IsIdleBy, ToldOfBlock, IsToldOf, RowTold, head_told}
 use Rattle.abnf_outcome.proofs.ToldMarks.{has_not, not_has}
 use Rattle.abnf_outcome.proofs.Undefined.{for_nothing}
 
@@ -35,16 +33,6 @@ use Rattle.abnf_outcome.proofs.Undefined.{for_nothing}
 abbrev pub NamesTell : Type 0
 NamesTell = (text : List ℕ) (blocks : List Block) (name : Name) (r : ℕ) → AreSaid text blocks → rule_number (names_of blocks) name ≡ Some r →
     IsUnproductive (rules_of blocks) r ↔ IsIdleBy (map digest_of blocks) name
-
--- ---- faults
-
-shown_by : (said : Result Rule SyntaxFault) (fault : SyntaxFault) → fault_shown said ≡ Some fault → said ≡ Err fault
-shown_by (Ok rule) fault e = absurd (cc (e))
-shown_by (Err other) fault e = let is : other ≡ fault = cc (e) in ap Err is
-
-sound_by : (said : Result Rule SyntaxFault) → fault_shown said ≡ None → (rule : Rule) × (said ≡ Ok rule)
-sound_by (Ok rule) e = (rule, refl)
-sound_by (Err fault) e = absurd (cc (e))
 
 -- ---- tests
 
@@ -66,12 +54,6 @@ based_is blocks =
 module _ (tell : NamesTell) (text : List ℕ) (blocks before : List Block) (block : Block) (after : List Block) (of_text : AreSaid text blocks)
     (split : blocks ≡ before ++ block ∷ after)
     (told : ToldOfBlock) (is : IsToldOf (map digest_of blocks) (map digest_of before) (digest_of block) told) where
-  abbrev Row : Place → List ℕ → Code → Type 0
-  Row = RowHolds blocks before block
-
-  abbrev ToldRow : Place → List ℕ → Code → Type 0
-  ToldRow = RowTold told block.items (fault_shown block.said)
-
   among : Contains blocks block
   among = subst (λ (bs : List Block). Contains bs block) (sym split) (Contains-append_right before (block ∷ after) block (first_in block after))
 
@@ -119,11 +101,13 @@ module _ (tell : NamesTell) (text : List ℕ) (blocks before : List Block) (bloc
     idle_told : told.role.is_first ≡ true → (told.idle ≡ true) ↔ IsIdleBy (map digest_of blocks) own
     idle_told first = is.idle (head_digest head) (ap (option_map head_digest) heads) first
 
-  head_to : (place : Place) (name : List ℕ) (head : Head) → HasHead block place name head → HeadStands block.items place name
-  head_to place name head h = record { head = head; heads = h.heads; at = h.at; spelled = h.spelled }
-
-  head_from : (place : Place) (name : List ℕ) (h : HeadStands block.items place name) → HasHead block place name h.head
-  head_from place name h = record { heads = h.heads; at = h.at; spelled = h.spelled }
+    nothing_is : ((told.role.is_first && told.idle) ≡ true) ↔ ((AnyDefines before own → ⊥) × IsIdle blocks own)
+    nothing_is = (
+      λ h. let t = and_parts told.role.is_first told.idle h in (first_is.0 t.0, idle_is.1 ((idle_told t.0).0 t.1)),
+      λ h.
+          let first : told.role.is_first ≡ true = first_is.1 h.0 in
+          and_from told.role.is_first told.idle first ((idle_told first).1 (idle_is.0 h.1)),
+    )
 
   -- ---- of a name that is used
 
@@ -139,30 +123,13 @@ module _ (tell : NamesTell) (text : List ℕ) (blocks before : List Block) (bloc
 
   -- ---- rows
 
-  row_to : (place : Place) (name : List ℕ) (code : Code) → Row place name code → ToldRow place name code
-  row_to place name (c.Syntax fault) row = (ap fault_shown row.0, row.1, row.2)
-  row_to place name c.NumberTooLarge row = (ap fault_shown row.0, row.1)
-  row_to place name c.TooDeep row = (ap fault_shown row.0, row.1)
-  row_to place name c.Undefined row = (ap fault_shown row.0.1, row.1, (strange_is place name row.1).1 row.2)
-  row_to place name c.Duplicate row = (head_to place name row.0 row.1, (twice_is row.0 row.1.heads).1 (row.2, row.3))
-  row_to place name c.NoBase row = (head_to place name row.0 row.1, (alone_is row.0 row.1.heads).1 (row.2, row.3))
-  row_to place name c.EmptyRepeat row = (ap fault_shown row.0.1, record { item = row.1.item; among = row.1.among; at = row.1.at; is = row.1.is }, row.2)
-  row_to place name c.EmptyRange row = (ap fault_shown row.0.1, record { item = row.1.item; among = row.1.among; at = row.1.at; is = row.1.is }, row.2)
-  row_to place name c.Unproductive row =
-      let first : told.role.is_first ≡ true = (first_is row.0 row.1.heads).1 row.2 in
-      (head_to place name row.0 row.1, first, (idle_told row.0 row.1.heads first).1 ((idle_is row.0 row.1.heads).0 row.3))
-
-  row_from : (place : Place) (name : List ℕ) (code : Code) → ToldRow place name code → Row place name code
-  row_from place name (c.Syntax fault) row = (shown_by block.said fault row.0, row.1, row.2)
-  row_from place name c.NumberTooLarge row = (shown_by block.said (f.NumberTooLarge place) row.0, row.1)
-  row_from place name c.TooDeep row = (shown_by block.said (f.TooDeep place) row.0, row.1)
-  row_from place name c.Undefined row = (sound_by block.said row.0, row.1, (strange_is place name row.1).0 row.2)
-  row_from place name c.Duplicate row = let t = (twice_is row.0.head row.0.heads).0 row.1 in (row.0.head, head_from place name row.0, t.0, t.1)
-  row_from place name c.NoBase row = let t = (alone_is row.0.head row.0.heads).0 row.1 in (row.0.head, head_from place name row.0, t.0, t.1)
-  row_from place name c.EmptyRepeat row = (sound_by block.said row.0, record { item = row.1.item; among = row.1.among; at = row.1.at; is = row.1.is }, row.2)
-  row_from place name c.EmptyRange row = (sound_by block.said row.0, record { item = row.1.item; among = row.1.among; at = row.1.at; is = row.1.is }, row.2)
-  row_from place name c.Unproductive row =
-      (row.0.head, head_from place name row.0, (first_is row.0.head row.0.heads).0 row.1, (idle_is row.0.head row.0.heads).1 ((idle_told row.0.head row.0.heads row.1).0 row.2))
+  told_rightly : IsTold blocks before block (λ head. head_told told) told.strange
+  told_rightly = record {
+    twice = twice_is;
+    alone = alone_is;
+    nothing = nothing_is;
+    undefined = strange_is;
+  }
 
   pub rows_told : (place : Place) (name : List ℕ) (code : Code) → RowHolds blocks before block place name code ↔ RowTold told block.items (fault_shown block.said) place name code
-  rows_told place name code = (row_to place name code, row_from place name code)
+  rows_told = rows.rows_told blocks before block (λ head. head_told told) told.strange told_rightly

@@ -4,6 +4,7 @@ use Rattle.std.specs.Prelude.{◌↔◌, Contains, slice_get}
 use Rattle.std.specs.List.{list_any}
 use Rattle.std.specs.Str.{bytes_eq}
 use Rattle.std.proofs.lemmas.List.Elements.{All-contains}
+use Rattle.std.proofs.lemmas.Option.{same_Some}
 use Rattle.abnf_syntax.specs.Blocks.{line_texts}
 use Rattle.abnf_parts.specs.Part.{Part, ref, opaque, subparts}
 use Rattle.abnf_parts.specs.Names.{Name, rule_number}
@@ -14,8 +15,8 @@ use Rattle.abnf_names.specs.Said.{Block, BlockSays, AreSaid}
 use Rattle.abnf_names.specs.Rules.{names_of, rules_of}
 use Rattle.abnf_names.proofs.Kept.{each_says}
 use Rattle.abnf_lint.specs.Unproductive.{IsUnproductive}
-use Rattle.abnf_productive.specs.Yields.{Yields, RuleYields}
-use Rattle.abnf_productive.proofs.Law.{rule_yields as generating_yields, string_of_rule}
+use Rattle.abnf_lint.specs.Yields.{Yields, RuleYields}
+use Rattle.abnf_lint.proofs.YieldLaw.{rule_yields as generating_yields, string_of_rule}
 use Rattle.abnf_digests.specs.Gists.{relinked}
 use Rattle.abnf_digests.specs.Digests.{Digest, digest_of, undefined_by, rule_by, core_by, rules_by}
 use Rattle.abnf_digests.proofs.Names.{names_are}
@@ -25,7 +26,7 @@ use Rattle.abnf_outcome.specs.Leading.{LeadsToOpaqueBy}
 use Rattle.abnf_outcome.proofs.Elements.{any_there, kept_back, mapped_back}
 use Rattle.abnf_outcome.proofs.Everywhere.{Everywhere, everywhere_by}
 use Rattle.abnf_outcome.proofs.ToldOfBlock.{uses_told}
-use Rattle.abnf_outcome.proofs.Standing.{IsOwn, IsOwnRule, IsCoreRule, stands, own_number, some_same}
+use Rattle.abnf_outcome.proofs.Standing.{IsOwn, IsOwnRule, IsCoreRule, stands, own_number}
 use Rattle.abnf_outcome.proofs.CoreHolds.{core_yields, core_leads_nowhere}
 use Rattle.abnf_outcome.proofs.Holding.{Carries, part_yields, part_holds, hidden_there, hidden_back, use_there, use_back}
 use Rattle.abnf_outcome.proofs.Alternatives.{number, alternative_own, rule_yields, yields_back, in_rule, in_rule_back, AllUsed, held_stands, leads_own}
@@ -85,7 +86,7 @@ module _ (digests : List Digest) where
 
   own_from : (k : ℕ) → From k → (name : Name) (r : ℕ) → IsOwnRule digests name r → RuleYields rules (suc k) r → HoldsBy digests (suc k) name
   own_from k more name r own y =
-      let same : y.0 ≡ rule_by digests name = some_same y.0 (rule_by digests name) (sym y.1 ∙ own.is) in
+      let same : y.0 ≡ rule_by digests name = same_Some y.0 (rule_by digests name) (sym y.1 ∙ own.is) in
       let b = yields_back digests (RuleYields rules k) name (subst (Yields (RuleYields rules k)) same y.2) in
       inr (b.0, b.1, part_holds (number digests) (HoldsBy digests k) (RuleYields rules k) (λ other q e h. more other q e h) b.0 b.2)
 
@@ -123,7 +124,7 @@ module _ (digests : List Digest) where
   in_own : (name : Name) (r : ℕ) (root x : Part) → IsOwnRule digests name r → slice_get rules r ≡ Some root → (rule_by digests name ≡ x → ⊥) → Contains (subparts root) x
       → (part : Part) × IsAlternative digests name part × Contains (subparts (relinked (number digests) part)) x
   in_own name r root x own e n c =
-      in_rule_back digests name x n (subst (λ p. Contains (subparts p) x) (some_same root (rule_by digests name) (sym e ∙ own.is)) c)
+      in_rule_back digests name x n (subst (λ p. Contains (subparts p) x) (same_Some root (rule_by digests name) (sym e ∙ own.is)) c)
 
   own_leads : (name : Name) (r : ℕ) → IsOwnRule digests name r → ReachesBy rules 0 r → LeadsToOpaqueBy digests 0 name
   own_leads name r own h =

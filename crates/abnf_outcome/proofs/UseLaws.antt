@@ -6,7 +6,7 @@ use Rattle.std.proofs.lemmas.List.Elements.{filter_map-append}
 use Rattle.abnf_parts.specs.Names.{Name}
 use Rattle.abnf_parts.specs.Part.{Part, Parts, quoted, series, span, seq, alt, rep, ref, opaque, end, next, subparts, all_subparts}
 use Rattle.abnf_lint.proofs.Member.{given_in, in_given}
-use Rattle.abnf_digests.specs.Gists.{is_above}
+use Rattle.abnf_lint.specs.Empty.{is_above}
 use Rattle.abnf_outcome.specs.declared.word.Word.{Word}
 use Rattle.abnf_outcome.specs.declared.word.Word.TheVariants as w
 use Rattle.abnf_outcome.specs.Words.{names_in, names_in_all, parts_count, repeat_words, words_of, words_of_all}

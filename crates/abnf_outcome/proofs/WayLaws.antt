@@ -7,7 +7,7 @@ use Rattle.std.proofs.lemmas.List.Folds.{list_any-append}
 use Rattle.std.proofs.lemmas.List.Elements.{Contains-append_left, Contains-append_right}
 use Rattle.abnf_parts.specs.Names.{Name}
 use Rattle.abnf_parts.specs.Part.{Part, Parts, quoted, series, span, seq, alt, rep, ref, opaque, end, next, subparts, all_subparts}
-use Rattle.abnf_digests.specs.Gists.{is_above}
+use Rattle.abnf_lint.specs.Empty.{is_above}
 use Rattle.abnf_outcome.specs.declared.sweep.Way.{Way}
 use Rattle.abnf_outcome.specs.declared.sweep.Way.TheVariants.{Holding, Leading}
 use Rattle.abnf_outcome.specs.declared.word.Word.{Word}

@@ -8,7 +8,7 @@ use Rattle.std.proofs.lemmas.List.{append_assoc, append-nil, reverse-append, len
 use Rattle.std.proofs.lemmas.List.Folds.{list_all-append, list_any-append}
 use Rattle.abnf_parts.specs.Names.{Name}
 use Rattle.abnf_parts.specs.Part.{Part, Parts, quoted, series, span, seq, alt, rep, ref, opaque, end, next}
-use Rattle.abnf_digests.specs.Gists.{is_above}
+use Rattle.abnf_lint.specs.Empty.{is_above}
 use Rattle.abnf_outcome.specs.declared.word.Word.{Word}
 use Rattle.abnf_outcome.specs.declared.word.Word.TheVariants as w
 use Rattle.abnf_outcome.specs.Marked.{holds, each_holds, some_holds}

@@ -4,12 +4,11 @@ use Rattle.std.specs.List.{list_any}
 use Rattle.std.specs.Option.{option_map_or}
 use Rattle.std.specs.Str.{bytes_eq}
 use Rattle.abnf_parts.specs.Names.{Name, rule_number}
-use Rattle.abnf_parts.specs.Core.{is_core_name}
-use Rattle.abnf_productive.specs.Marks.{mark_at}
+use Rattle.abnf_lint.specs.Marks.{mark_at}
 use Rattle.abnf_digests.specs.Digests.{Digest, defined_by}
 use Rattle.abnf_digests.specs.Roles.{Role, role_by}
 use Rattle.abnf_outcome.specs.declared.found_in.BlockTold.{BlockTold}
-use Rattle.abnf_outcome.specs.ToldOfBlock.{ToldOfBlock}
+use Rattle.abnf_outcome.specs.ToldOfBlock.{ToldOfBlock, is_strange}
 
 -- the mark at the name's number in the table; false of a name that isn't in the table
 abbrev pub name_mark : List Name → List Bool → Name → Bool
@@ -17,7 +16,7 @@ name_mark table marks name = option_map_or (mark_at marks) (rule_number table na
 
 -- The name is that of no core rule, and isn't marked as one that a block defines.
 abbrev pub strange_by : List Name → List Bool → Name → Bool
-strange_by table defined name = not (is_core_name name) && not (name_mark table defined name)
+strange_by table defined = is_strange (name_mark table defined)
 
 -- the role of a block's head, by its flags
 abbrev pub flagged_role : BlockTold → Role

@@ -4,7 +4,7 @@ ghost use Rattle.std.specs.Prelude.{◌≡◌, ◌∷◌, ◌++◌, ℕ, Bool, L
 ghost use Rattle.std.specs.List.{list_all, list_any};
 ghost use Rattle.abnf_parts.specs.Names.{Name};
 ghost use Rattle.abnf_parts.specs.Part.{Part};
-ghost use Rattle.abnf_productive.specs.Marks.{mark_at};
+ghost use Rattle.abnf_lint.specs.Marks.{mark_at};
 ghost use Rattle.abnf_outcome.specs.declared.word.Word.{Word};
 ghost use Rattle.abnf_outcome.specs.Marked.{holds};
 ghost use Rattle.abnf_outcome.specs.Words.{is_so, run_words, step_word, words_of};

@@ -2,7 +2,7 @@
 
 ghost use Rattle.std.specs.Prelude.{◌≡◌, ◌<◌, ℕ, List, IfOk, IsTrue, OnOk, Some, length};
 ghost use Rattle.abnf_parts.specs.Names.{Name, rule_number};
-ghost use Rattle.abnf_productive.specs.Marks.{mark_at};
+ghost use Rattle.abnf_lint.specs.Marks.{mark_at};
 ghost use Rattle.abnf_digests.specs.Digests.{Digest};
 ghost use Rattle.abnf_outcome.specs.declared.word.Word.{Word};
 ghost use Rattle.abnf_outcome.specs.ByTable.{AreDefinedMarks, AreFlagged, name_mark, strange_by};
@@ -19,6 +19,7 @@ use crate::heads::{HeadRole, roles, see};
 use crate::quiet::{is_silent, uses_strange};
 use crate::settling::{core_marks, lead, settle};
 use crate::store::Digests;
+use crate::sweep::SweptBlocks;
 use crate::table::NameTable;
 use abnf_lint::Finding;
 use abnf_names::Section;
@@ -96,7 +97,7 @@ pub struct Outcome {
 
 /// Whether the name with this number is marked neither as one that a block defines nor as one of a core rule.
 fn is_strange(defined: &[bool], core: &[bool], number: usize) -> bool
-    ensures { result ≡ spec.is_strange defined.now core.now number }
+    ensures { result ≡ spec.is_strange_number defined.now core.now number }
 {
     !is_marked(defined, number) && !is_marked(core, number)
 }
@@ -130,8 +131,13 @@ impl Digests {
         let defined = defined_marks(alloc, names, blocks)?;
         let core = core_marks(alloc, names, &defined)?;
         let strange = strange_marks(alloc, &defined, &core)?;
-        let held = settle(alloc, words, blocks, &roles, core)?;
-        let led = lead(alloc, names, words, blocks, &roles, &held)?;
+        let swept = SweptBlocks {
+            words,
+            blocks,
+            roles: &roles,
+        };
+        let held = settle(alloc, &swept, core)?;
+        let led = lead(alloc, names, &swept, &held)?;
         let tolds = flags(alloc, blocks, &roles, &held, &led)?;
         Ok(Outcome {
             tolds,

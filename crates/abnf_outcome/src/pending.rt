@@ -10,8 +10,7 @@ ghost use Rattle.abnf_outcome.specs.own.Pending as spec;
 ghost use Rattle.abnf_outcome.specs.own.Ways.{AreSoundByWayFor, unmarked};
 
 use crate::digest::BlockDigest;
-use crate::heads::HeadRole;
-use crate::sweep::{Way, visit};
+use crate::sweep::{SweptBlocks, Way, visit};
 use crate::word::Word;
 use ls_lists::List;
 use std::alloc::{AllocError, Global};
@@ -94,26 +93,24 @@ fn add_users_of(
 /// Visits the block at a place. The name that it marks, if it marks one.
 fn visit_at(
     way: Way,
-    words: &[Word],
-    blocks: &[BlockDigest],
-    roles: &[HeadRole],
+    swept: &SweptBlocks<'_>,
     place: usize,
     marks: &mut [bool],
     stack: &mut Vec<bool>,
 ) -> Result<Option<usize>, AllocError>
-    ensures some { IfOk result (λ marked. IfSome marked (λ name. spec.IsMarkedAt way words.now blocks.now roles.now marks.old place name marks.new)) }
+    ensures some { IfOk result (λ marked. IfSome marked (λ name. spec.IsMarkedAt way swept.now.words.now swept.now.blocks.now swept.now.roles.now marks.old place name marks.new)) }
     ensures none { IfOk result (λ marked. IfNone marked (marks.new ≡ marks.old)) }
 {
-    let Some(block) = blocks.get(place) else {
+    let Some(block) = swept.blocks.get(place) else {
         return Ok(None);
     };
-    let Some(role) = roles.get(place) else {
+    let Some(role) = swept.roles.get(place) else {
         return Ok(None);
     };
     let Some(head) = block.head else {
         return Ok(None);
     };
-    if visit(way, words, *block, *role, marks, stack)? {
+    if visit(way, swept.words, *block, *role, marks, stack)? {
         Ok(Some(head.name as usize))
     } else {
         Ok(None)
@@ -123,18 +120,16 @@ fn visit_at(
 /// Visits pending blocks, the last one first, until one marks its name. That name, if there is one.
 fn mark_next(
     way: Way,
-    words: &[Word],
-    blocks: &[BlockDigest],
-    roles: &[HeadRole],
+    swept: &SweptBlocks<'_>,
     pending: &mut List<usize>,
     marks: &mut [bool],
     stack: &mut Vec<bool>,
 ) -> Result<Option<usize>, AllocError>
-    ensures some { IfOk result (λ marked. IfSome marked (λ name. spec.IsNext way words.now blocks.now roles.now marks.old name marks.new)) }
+    ensures some { IfOk result (λ marked. IfSome marked (λ name. spec.IsNext way swept.now.words.now swept.now.blocks.now swept.now.roles.now marks.old name marks.new)) }
     ensures none { IfOk result (λ marked. IfNone marked (marks.new ≡ marks.old)) }
 {
     while let Some(place) = pending.pop() {
-        if let Some(name) = visit_at(way, words, blocks, roles, place, marks, stack)? {
+        if let Some(name) = visit_at(way, swept, place, marks, stack)? {
             return Ok(Some(name));
         }
     }
@@ -149,19 +144,17 @@ fn mark_next(
 pub(crate) fn visit_all(
     alloc: Global,
     way: Way,
-    words: &[Word],
-    blocks: &[BlockDigest],
-    roles: &[HeadRole],
+    swept: &SweptBlocks<'_>,
     users: &[List<usize>],
     marks: &mut [bool],
     stack: &mut Vec<bool>,
 ) -> Result<(), AllocError>
-    ensures sound { OnOk result ((table : Listed Name) → AreSoundByWayFor way table words.now blocks.now roles.now marks.old →
-        AreSoundByWayFor way table words.now blocks.now roles.now marks.new) }
+    ensures sound { OnOk result ((table : Listed Name) → AreSoundByWayFor way table swept.now.words.now swept.now.blocks.now swept.now.roles.now marks.old →
+        AreSoundByWayFor way table swept.now.words.now swept.now.blocks.now swept.now.roles.now marks.new) }
     ensures few { OnOk result (unmarked marks.new ≤ unmarked marks.old) }
 {
-    let mut pending = all_places(alloc, blocks.len())?;
-    while let Some(name) = mark_next(way, words, blocks, roles, &mut pending, marks, stack)? {
+    let mut pending = all_places(alloc, swept.blocks.len())?;
+    while let Some(name) = mark_next(way, swept, &mut pending, marks, stack)? {
         add_users_of(name, users, &mut pending)?;
     }
     Ok(())

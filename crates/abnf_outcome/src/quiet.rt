@@ -2,7 +2,7 @@
 
 ghost use Rattle.std.specs.Prelude.{◌≡◌, ◌≤◌, ◌&&◌, length, not, slice_range};
 ghost use Rattle.std.specs.List.{list_any};
-ghost use Rattle.abnf_productive.specs.Marks.{mark_at};
+ghost use Rattle.abnf_lint.specs.Marks.{mark_at};
 ghost use Rattle.abnf_outcome.specs.own.Flags.{is_marked_name};
 
 use crate::digest::BlockDigest;

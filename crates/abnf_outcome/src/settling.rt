@@ -7,10 +7,8 @@ ghost use Rattle.abnf_outcome.specs.own.Ways as spec;
 
 use crate::digest::{BlockDigest, HeadNumber};
 use crate::evaluate::is_marked;
-use crate::heads::HeadRole;
-use crate::sweep::{Way, sweep_all};
+use crate::sweep::{SweptBlocks, Way, sweep_all};
 use crate::table::NameTable;
-use crate::word::Word;
 use std::alloc::{AllocError, Global};
 
 /// Whether the name with this number isn't marked as one that a block defines, and a core rule has it.
@@ -47,26 +45,16 @@ pub(crate) fn core_marks(
 /// Where an allocation is refused.
 pub(crate) fn settle(
     alloc: Global,
-    words: &[Word],
-    blocks: &[BlockDigest],
-    roles: &[HeadRole],
+    swept: &SweptBlocks<'_>,
     core: Vec<bool>,
 ) -> Result<Vec<bool>, AllocError>
-    requires { length roles.now ≡ length blocks.now }
-    ensures { IfOk result (λ marks. (table : List Name) → spec.AreCoreMarks table blocks.now core.items →
-        spec.AreHoldingMarksFor table words.now blocks.now roles.now marks.items) }
+    requires { length swept.now.roles.now ≡ length swept.now.blocks.now }
+    ensures { IfOk result (λ marks. (table : List Name) → spec.AreCoreMarks table swept.now.blocks.now core.items →
+        spec.AreHoldingMarksFor table swept.now.words.now swept.now.blocks.now swept.now.roles.now marks.items) }
 {
     let mut marks = core;
     let mut stack = Vec::new(alloc);
-    sweep_all(
-        alloc,
-        Way::Holding,
-        words,
-        blocks,
-        roles,
-        &mut marks,
-        &mut stack,
-    )?;
+    sweep_all(alloc, Way::Holding, swept, &mut marks, &mut stack)?;
     Ok(marks)
 }
 
@@ -74,24 +62,14 @@ pub(crate) fn settle(
 fn leading_marks(
     alloc: Global,
     names: &NameTable,
-    words: &[Word],
-    blocks: &[BlockDigest],
-    roles: &[HeadRole],
+    swept: &SweptBlocks<'_>,
 ) -> Result<Vec<bool>, AllocError>
-    requires { length roles.now ≡ length blocks.now }
-    ensures { IfOk result (λ marks. spec.AreLeadingMarksFor names.now words.now blocks.now roles.now marks.items) }
+    requires { length swept.now.roles.now ≡ length swept.now.blocks.now }
+    ensures { IfOk result (λ marks. spec.AreLeadingMarksFor names.now swept.now.words.now swept.now.blocks.now swept.now.roles.now marks.items) }
 {
     let mut marks = vec![in alloc; false; names.len()]?;
     let mut stack = Vec::new(alloc);
-    sweep_all(
-        alloc,
-        Way::Leading,
-        words,
-        blocks,
-        roles,
-        &mut marks,
-        &mut stack,
-    )?;
+    sweep_all(alloc, Way::Leading, swept, &mut marks, &mut stack)?;
     Ok(marks)
 }
 
@@ -120,16 +98,14 @@ fn one_is_unmarked(blocks: &[BlockDigest], marks: &[bool]) -> bool
 pub(crate) fn lead(
     alloc: Global,
     names: &NameTable,
-    words: &[Word],
-    blocks: &[BlockDigest],
-    roles: &[HeadRole],
+    swept: &SweptBlocks<'_>,
     held: &[bool],
 ) -> Result<Vec<bool>, AllocError>
-    requires { length roles.now ≡ length blocks.now }
-    ensures { IfOk result (λ marks. spec.AreHeadsLedFor names.now words.now blocks.now roles.now held.now marks.items) }
+    requires { length swept.now.roles.now ≡ length swept.now.blocks.now }
+    ensures { IfOk result (λ marks. spec.AreHeadsLedFor names.now swept.now.words.now swept.now.blocks.now swept.now.roles.now held.now marks.items) }
 {
-    if one_is_unmarked(blocks, held) {
-        leading_marks(alloc, names, words, blocks, roles)
+    if one_is_unmarked(swept.blocks, held) {
+        leading_marks(alloc, names, swept)
     } else {
         Ok(Vec::new(alloc))
     }

@@ -8,7 +8,7 @@ ghost use Rattle.std.specs.Prelude.{◌≡◌, ◌-◌, ◌<◌, ℕ, true, fals
 ghost use Rattle.std.specs.List.{list_any};
 ghost use Rattle.abnf_parts.specs.Names.{Name};
 ghost use Rattle.abnf_parts.specs.Part.{Part};
-ghost use Rattle.abnf_productive.specs.Marks.{mark_at};
+ghost use Rattle.abnf_lint.specs.Marks.{mark_at};
 ghost use Rattle.abnf_outcome.specs.Words.{words_of};
 ghost use Rattle.abnf_outcome.specs.own.Ways as spec;
 
@@ -24,6 +24,14 @@ use std::alloc::{AllocError, Global};
 pub(crate) enum Way {
     Holding,
     Leading,
+}
+
+/// What is swept: the words of all blocks, the blocks, and for each the role of its head.
+#[derive(Clone, Copy)]
+pub(crate) struct SweptBlocks<'b> {
+    pub words: &'b [Word],
+    pub blocks: &'b [BlockDigest],
+    pub roles: &'b [HeadRole],
 }
 
 /// Whether a word is opaque, or a marked name.
@@ -101,22 +109,27 @@ fn place_of(backwards: bool, count: usize, passed: usize) -> usize
 fn sweep(
     way: Way,
     backwards: bool,
-    words: &[Word],
-    blocks: &[BlockDigest],
-    roles: &[HeadRole],
+    swept: &SweptBlocks<'_>,
     marks: &mut [bool],
     stack: &mut Vec<bool>,
 ) -> Result<bool, AllocError>
-    requires { length roles.now ≡ length blocks.now }
-    ensures sound { IfOk result (λ any. (table : List Name) → spec.AreSoundByWayFor way table words.now blocks.now roles.now marks.old →
-        spec.AreSoundByWayFor way table words.now blocks.now roles.now marks.new) }
-    ensures done { IfOk result (λ any. any ≡ false → spec.AreSwept way words.now blocks.now roles.now marks.new) }
+    requires { length swept.now.roles.now ≡ length swept.now.blocks.now }
+    ensures sound { IfOk result (λ any. (table : List Name) → spec.AreSoundByWayFor way table swept.now.words.now swept.now.blocks.now swept.now.roles.now marks.old →
+        spec.AreSoundByWayFor way table swept.now.words.now swept.now.blocks.now swept.now.roles.now marks.new) }
+    ensures done { IfOk result (λ any. any ≡ false → spec.AreSwept way swept.now.words.now swept.now.blocks.now swept.now.roles.now marks.new) }
     ensures few { IfOk result (λ any. any ≡ true → spec.unmarked marks.new < spec.unmarked marks.old) }
 {
     let mut any = false;
-    for passed in 0..blocks.len() {
-        let place = place_of(backwards, blocks.len(), passed);
-        if visit(way, words, blocks[place], roles[place], marks, stack)? {
+    for passed in 0..swept.blocks.len() {
+        let place = place_of(backwards, swept.blocks.len(), passed);
+        if visit(
+            way,
+            swept.words,
+            swept.blocks[place],
+            swept.roles[place],
+            marks,
+            stack,
+        )? {
             any = true;
         }
     }
@@ -132,26 +145,24 @@ fn sweep(
 pub(crate) fn sweep_all(
     alloc: Global,
     way: Way,
-    words: &[Word],
-    blocks: &[BlockDigest],
-    roles: &[HeadRole],
+    swept: &SweptBlocks<'_>,
     marks: &mut [bool],
     stack: &mut Vec<bool>,
 ) -> Result<(), AllocError>
-    requires { length roles.now ≡ length blocks.now }
-    ensures sound { OnOk result ((table : List Name) → spec.AreSoundByWayFor way table words.now blocks.now roles.now marks.old →
-        spec.AreSoundByWayFor way table words.now blocks.now roles.now marks.new) }
-    ensures done { OnOk result (spec.AreSwept way words.now blocks.now roles.now marks.new) }
+    requires { length swept.now.roles.now ≡ length swept.now.blocks.now }
+    ensures sound { OnOk result ((table : List Name) → spec.AreSoundByWayFor way table swept.now.words.now swept.now.blocks.now swept.now.roles.now marks.old →
+        spec.AreSoundByWayFor way table swept.now.words.now swept.now.blocks.now swept.now.roles.now marks.new) }
+    ensures done { OnOk result (spec.AreSwept way swept.now.words.now swept.now.blocks.now swept.now.roles.now marks.new) }
 {
-    if !sweep(way, true, words, blocks, roles, marks, stack)? {
+    if !sweep(way, true, swept, marks, stack)? {
         return Ok(());
     }
-    if !sweep(way, false, words, blocks, roles, marks, stack)? {
+    if !sweep(way, false, swept, marks, stack)? {
         return Ok(());
     }
-    let users = users_of(alloc, marks.len(), words, blocks)?;
-    while sweep(way, true, words, blocks, roles, marks, stack)? {
-        visit_all(alloc, way, words, blocks, roles, &users, marks, stack)?;
+    let users = users_of(alloc, marks.len(), swept.words, swept.blocks)?;
+    while sweep(way, true, swept, marks, stack)? {
+        visit_all(alloc, way, swept, &users, marks, stack)?;
     }
     Ok(())
 }

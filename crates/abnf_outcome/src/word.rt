@@ -6,12 +6,14 @@ ghost use Rattle.abnf_syntax.specs.declared.tree.Element.{out-Element};
 ghost use Rattle.abnf_parts.specs.Part.{Part, opaque, ref, subparts};
 ghost use Rattle.abnf_parts.specs.Leaf.{number_part};
 ghost use Rattle.abnf_parts.specs.Tree.{alternatives, concatenation_part, element_part, repetition_part, tree_inside};
+ghost use Rattle.abnf_lint.specs.Empty.{is_above};
 ghost use Rattle.abnf_digests.specs.Digests.{no_number};
-ghost use Rattle.abnf_digests.specs.Gists.{gist, is_above};
+ghost use Rattle.abnf_digests.specs.Gists.{gist};
 ghost use Rattle.abnf_outcome.specs.Words.{repeat_words, words_of};
 ghost use Rattle.abnf_outcome.specs.own.Adding.{AddsWords};
 
 use crate::table::NameTable;
+use abnf_lint::is_above;
 use abnf_parts::{range_of, repeat_bounds};
 use abnf_syntax::{Element, MAX_NESTING, Repetition, Rule};
 use abnf_token::{Folded, Token};
@@ -58,11 +60,7 @@ fn number_word<'t>(token: Token<'t>) -> Word
 fn push_repeat(least: u32, most: Option<u32>, words: &mut Vec<Word>) -> Result<(), AllocError>
     ensures { OnOk result (words.new.items ≡ words.old.items ++ repeat_words (is_above least most) least) }
 {
-    let is_above = match most {
-        Some(most) => most < least,
-        None => false,
-    };
-    if is_above {
+    if is_above(least, most) {
         words.push(Word::Never)?;
     } else if least == 0 {
         words.push(Word::Optional)?;

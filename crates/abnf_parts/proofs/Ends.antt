@@ -1,6 +1,7 @@
 -- The ends of a range are the first two of its numbers.
 use Rattle.std.proofs.Common.{◌≡◌, ◌∙◌, ℕ, true, false, List, [], ◌∷◌, Some, None, refl, sym, ap}
 use Rattle.std.specs.Prelude.{fold, if◌then◌else◌}
+use Rattle.std.proofs.lemmas.Option.{same_Some}
 use Rattle.abnf_parts.specs.Part.{opaque, series, span}
 use Rattle.abnf_parts.specs.Leaf.{both_ends, ends_of, has, number_tree, numbers_from, span_of, with_end}
 
@@ -28,11 +29,8 @@ span_of_ends : (ns : List ℕ) (low high : ℕ) → ends_of (span_of ns) ≡ Som
 span_of_ends [] low high h = absurd (cc)
 span_of_ends (x ∷ []) low high h = absurd (cc)
 span_of_ends (x ∷ y ∷ rest) low high h =
-    let both : ◌≡◌ {A = ℕ × ℕ} (x, y) (low, high) = some_same (x, y) (low, high) h in
+    let both : ◌≡◌ {A = ℕ × ℕ} (x, y) (low, high) = same_Some (x, y) (low, high) h in
     (λ i. span (both i).0 (both i).1)
-  where
-    some_same : (a b : ℕ × ℕ) → Some a ≡ Some b → a ≡ b
-    some_same a b e = cc e
 
 opaque_of_none : (ns : List ℕ) → ends_of (span_of ns) ≡ None → span_of ns ≡ opaque
 opaque_of_none [] h = refl

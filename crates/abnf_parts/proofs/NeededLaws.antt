@@ -12,6 +12,7 @@ use lib.Dec.{leb}
 use Rattle.abnf_parts.specs.declared.core_rule.Core.{Core}
 use Rattle.abnf_parts.specs.declared.core_rule.Core.TheVariants.{Alpha, Bit, Char, Cr, Crlf, Ctl, Digit, Dquote, Hexdig, Htab, Lf, Lwsp, Octet, Sp, Vchar, Wsp}
 use Rattle.std.specs.Str.{bytes_eq}
+use Rattle.std.proofs.Math.Bool.{or-false, or-true}
 use Rattle.abnf_parts.specs.Names.{Name, names_beside, with_name}
 use Rattle.abnf_parts.specs.Core.{CoreRule, core_rules, core_name, is_core_name, names_used, core_needs, is_needed}
 use Rattle.abnf_parts.specs.CoreTable.{core_of, users_of, is_core_wanted}
@@ -149,21 +150,13 @@ swapped core (n ∷ unknown) =
 pub needed_is : (core : Core) (unknown users : List Name) (b : Bool) → users ≡ users_of core → b ≡ is_core_wanted unknown users → b ≡ is_needed unknown (core_of core)
 needed_is core unknown users b u h = h ∙ (ap (is_core_wanted unknown) u ∙ swapped core unknown)
 
-or_true : (b : Bool) → (b || true) ≡ true
-or_true true = refl
-or_true false = refl
-
-or_false : (b : Bool) → (b || false) ≡ b
-or_false true = refl
-or_false false = refl
-
 -- a test that passes for a name of a list or not tells no more names when they are there once each
 module _ (test : Name → Bool) where
   kept_by : (b c : Bool) (x : Name) (names : List Name) → list_any (bytes_eq x) names ≡ b → test x ≡ c → (b ≡ true → c ≡ true → list_any test names ≡ true) →
       list_any test (if b then names else names ++ x ∷ []) ≡ (list_any test names || c)
   kept_by true true x names e f g = g refl refl ∙ sym (ap (λ b. b || true) (g refl refl))
-  kept_by true false x names e f g = sym (or_false (list_any test names))
-  kept_by false c x names e f g = list_any-append test names (x ∷ []) ∙ ap (λ b. list_any test names || b) (or_false (test x) ∙ f)
+  kept_by true false x names e f g = sym (or-false (list_any test names))
+  kept_by false c x names e f g = list_any-append test names (x ∷ []) ∙ ap (λ b. list_any test names || b) (or-false (test x) ∙ f)
 
   there : (x : Name) (names : List Name) → list_any (bytes_eq x) names ≡ true → test x ≡ true → list_any test names ≡ true
   there x [] h t = absurd (cc h)
@@ -171,10 +164,10 @@ module _ (test : Name → Bool) where
     where
       by : (b : Bool) → bytes_eq x n ≡ b → (b || list_any (bytes_eq x) names) ≡ true → (list_any (bytes_eq x) names ≡ true → list_any test names ≡ true) → (test n || list_any test names) ≡ true
       by true e g rest = ap (λ b. b || list_any test names) (subst (λ m. test m ≡ true) (same_is x n e) t)
-      by false e g rest = ap (λ b. test n || b) (rest g) ∙ or_true (test n)
+      by false e g rest = ap (λ b. test n || b) (rest g) ∙ or-true (test n)
 
   pub any_folded : (names xs : List Name) → list_any test (fold with_name names xs) ≡ (list_any test names || list_any test xs)
-  any_folded names [] = sym (or_false (list_any test names))
+  any_folded names [] = sym (or-false (list_any test names))
   any_folded names (x ∷ xs) =
       any_folded (with_name names x) xs
       ∙ (ap (λ b. b || list_any test xs) (kept_by (list_any (bytes_eq x) names) (test x) x names refl refl (there x names))

@@ -1,10 +1,10 @@
 -- A block has no place of a name that isn't written in it, and none that defines a name with which it doesn't begin.
 use Rattle.std.proofs.Common.{◌≡◌, ℕ, suc, ◌+◌, ◌<◌, Bool, true, false, List, [], ◌∷◌, ◌++◌, length, map, filter, Option, Some, None, refl, sym, ap, subst, ◌∙◌, arith, if◌then◌else◌}
-use Rattle.std.specs.Prelude.{◌&&◌, ◌||◌, slice_index_or}
+use Rattle.std.specs.Prelude.{◌&&◌, slice_index_or}
 use Rattle.std.specs.List.{flat_map, list_any}
 use Rattle.std.specs.Option.{is_some}
 use Rattle.std.specs.Str.{bytes_eq}
-use Rattle.std.proofs.lemmas.Bool.{and_parts}
+use Rattle.std.proofs.lemmas.Bool.{and_parts, or_parts}
 use Rattle.abnf_token.specs.Classes.{Text}
 use Rattle.abnf_token.specs.Folded.{lowercase}
 use Rattle.abnf_token.specs.declared.token.Kind.{Kind}
@@ -23,10 +23,6 @@ use Rattle.abnf_places.specs.declared.wanted.Wanted.{Wanted}
 use Rattle.abnf_places.specs.declared.wanted.Wanted.TheVariants.{Definitions}
 use Rattle.abnf_places.specs.Wanted.{is_wanted, wanted_places}
 use Rattle.abnf_places.specs.own.Stated.{IsNotFirst, IsNowhere, is_called, is_first}
-
-or_false : (a b : Bool) → (a || b) ≡ false → (a ≡ false) × (b ≡ false)
-or_false true b h = absurd (cc)
-or_false false b h = (refl, h)
 
 module _ (name : Name) where
   -- ---- tokens and items that aren't the name
@@ -47,7 +43,7 @@ module _ (name : Name) where
 
   line_others : (ts : List Token) → list_any (is_called name) ts ≡ false → Others (with_line_end ts)
   line_others [] h = tt
-  line_others (t ∷ ts) h = let both = or_false (is_called name t) (list_any (is_called name) ts) h in (both.0, line_others ts both.1)
+  line_others (t ∷ ts) h = let both = or_parts (is_called name t) (list_any (is_called name) ts) h in (both.0, line_others ts both.1)
 
   lines_others : (ls : List Text) (at end : ℕ) (tss : List (List Token)) → at + length tss ≡ end → AreTokens ls at tss → IsNowhere ls name at end → Others (flat_map with_line_end tss)
   lines_others ls at end [] all are none = tt

@@ -7,27 +7,14 @@ use Rattle.std.specs.Str.{bytes_eq}
 use Rattle.abnf_token.specs.Classes.{Text}
 use Rattle.abnf_token.specs.Folded.{lowercase}
 use Rattle.abnf_token.specs.Marks.{AreMarks, mark_of}
-use Rattle.abnf_token.specs.Tokens.{AreSlices, TokensOf, view}
+use Rattle.abnf_token.specs.Tokens.{AreSlices, TokensOf}
 use Rattle.abnf_token.specs.declared.mark.TokenMark.{TokenMark}
-use Rattle.abnf_token.specs.declared.token.Kind.{Kind}
 use Rattle.abnf_token.specs.declared.token.Token.{Token}
-use Rattle.abnf_token.proofs.Laws.{one_answer, slices}
+use Rattle.abnf_token.proofs.Laws.{slices}
 use Rattle.abnf_syntax.specs.Kinds.{is_item, is_name}
+use Rattle.abnf_syntax.proofs.EndLaws.{marks_are}
 use Rattle.abnf_parts.specs.Names.{Name}
 use Rattle.abnf_places.specs.own.Stated.{IsNowhere, is_called, is_called_at, is_first, is_first_at}
-
-abbrev viewed_mark : Kind × Text × ℕ × ℕ → TokenMark
-viewed_mark v = record { kind = v.0; start = v.3; end = v.3 + length v.1 }
-
-viewed : (ts : List Token) → map mark_of ts ≡ map viewed_mark (map view ts)
-viewed [] = refl
-viewed (t ∷ ts) = ap (λ l. mark_of t ∷ l) (viewed ts)
-
--- a line's marks are those of its tokens, whichever list of these is taken
-marks_are : (line : Text) (marks : List TokenMark) (at : ℕ) (ts : List Token) → AreMarks line marks → TokensOf at 0 line ts → map mark_of ts ≡ marks
-marks_are line marks at ts are of =
-    let own = are at in
-    viewed ts ∙ (ap (map viewed_mark) (one_answer line at 0 ts own.0 of own.1) ∙ (sym (viewed own.0) ∙ own.2))
 
 module _ (name : Name) (line : Text) where
   called : (t : Token) → t.text.now ≡ take (length t.text.now) (drop t.start line) → is_called name t ≡ is_called_at name line (mark_of t)

@@ -15,6 +15,13 @@ use abnf_token::Folded;
 use ls_lists::List;
 use std::alloc::{AllocError, Global};
 
+/// What is looked for: a name, and which of its places.
+#[derive(Clone, Copy)]
+pub(crate) struct Sought<'n> {
+    pub name: Folded<'n>,
+    pub wanted: Wanted,
+}
+
 /// The places of names in some blocks.
 fn spots_in<'t>(alloc: Global, blocks: &[Block<'t>]) -> Result<List<Spot<'t>>, AllocError>
     ensures { IfOk result (λ spots. map named_at spots ≡ flat_map (λ block. places_in block.items) blocks.now) }
@@ -40,37 +47,35 @@ pub(crate) fn block_spots<'t>(
     spots_in(alloc, blocks.as_slice())
 }
 
-/// Adds the wanted places of a name among these.
+/// Adds the places among these that are sought.
 fn push_alike<'t>(
     spots: &mut List<Spot<'t>>,
     all: &[Spot<'t>],
-    name: Folded<'_>,
-    wanted: Wanted,
+    sought: Sought<'_>,
 ) -> Result<(), AllocError>
-    ensures { OnOk result (map named_at spots.new ≡ map named_at spots.old ++ wanted_places wanted (folded_text name.entry) (map named_at all.now)) }
+    ensures { OnOk result (map named_at spots.new ≡ map named_at spots.old ++ wanted_places sought.entry.wanted (folded_text sought.entry.name) (map named_at all.now)) }
 {
     for spot in all {
-        if name == spot.name && wanted.takes(spot.defines) {
+        if sought.name == spot.name && sought.wanted.takes(spot.defines) {
             spots.push(*spot)?;
         }
     }
     Ok(())
 }
 
-/// Adds the wanted places of a name in the block of these lines.
+/// Adds the places in the block of these lines that are sought.
 pub(crate) fn push_wanted<'t>(
     alloc: Global,
     spots: &mut List<Spot<'t>>,
     sheet: &Sheet<'t>,
     first: usize,
     end: usize,
-    name: Folded<'_>,
-    wanted: Wanted,
+    sought: Sought<'_>,
 ) -> Result<(), AllocError>
     requires { IsBlock sheet.now first end }
     ensures { OnOk result ((items : List Item) → AreItems sheet.now first end items
-        → map named_at spots.new ≡ map named_at spots.old ++ wanted_places wanted (folded_text name.entry) (places_in items)) }
+        → map named_at spots.new ≡ map named_at spots.old ++ wanted_places sought.entry.wanted (folded_text sought.entry.name) (places_in items)) }
 {
     let all = block_spots(alloc, sheet, first, end)?;
-    push_alike(spots, all.as_slice(), name, wanted)
+    push_alike(spots, all.as_slice(), sought)
 }

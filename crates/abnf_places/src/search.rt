@@ -8,7 +8,7 @@ ghost use Rattle.abnf_places.specs.declared.wanted.Wanted.TheVariants.{Definitio
 ghost use Rattle.abnf_places.specs.Found.{ArePlacesOf};
 ghost use Rattle.abnf_places.specs.own.Blocks as spec;
 
-use crate::block::push_wanted;
+use crate::block::{Sought, push_wanted};
 use crate::stated::{begins_with, is_stated};
 use crate::wanted::Wanted;
 use abnf_names::Spot;
@@ -27,12 +27,16 @@ fn definitions_of<'t>(
     ensures places { IfOk result (λ spots. spec.AreWanted sheet.now Definitions (folded_text name.entry) (map named_at spots)) }
     ensures memory { OnErr result (HasBlock sheet.now) }
 {
+    let sought = Sought {
+        name,
+        wanted: Wanted::Definitions,
+    };
     let count = sheet.count();
     let mut spots = List::new(alloc);
     for at in 0..count {
         if begins_with(sheet, at, name) && sheet.begins(at) {
             let end = sheet.next_block(at + 1, count);
-            push_wanted(alloc, &mut spots, sheet, at, end, name, Wanted::Definitions)?;
+            push_wanted(alloc, &mut spots, sheet, at, end, sought)?;
         }
     }
     Ok(spots)
@@ -48,13 +52,14 @@ fn stated_places<'t>(
     ensures places { IfOk result (λ spots. spec.AreWanted sheet.now wanted (folded_text name.entry) (map named_at spots)) }
     ensures memory { OnErr result (HasBlock sheet.now) }
 {
+    let sought = Sought { name, wanted };
     let count = sheet.count();
     let mut spots = List::new(alloc);
     let mut first = sheet.next_block(0, count);
     'blocks: while first < count {
         let end = sheet.next_block(first + 1, count);
         if is_stated(sheet, first, end, name) {
-            push_wanted(alloc, &mut spots, sheet, first, end, name, wanted)?;
+            push_wanted(alloc, &mut spots, sheet, first, end, sought)?;
         }
         first = end;
     }

@@ -4,7 +4,7 @@ use Rattle.std.specs.Prelude.{if◌then◌else◌, fold}
 use Rattle.std.specs.List.{list_any, filter_map, cons_option, AllByRecursion}
 use Rattle.std.specs.Option.{is_some}
 use Rattle.std.specs.Str.{bytes_eq}
-use Rattle.std.proofs.lemmas.Bool.{and_parts}
+use Rattle.std.proofs.lemmas.Bool.{and_parts, or_parts}
 use Rattle.abnf_token.proofs.Language.{and_true, and_false}
 use Rattle.abnf_token.specs.declared.token.Kind.{Kind}
 use Rattle.abnf_token.specs.declared.token.Kind.TheVariants as k
@@ -36,10 +36,6 @@ pub all_back : {X : Type 0} (P : X → Type 0) (xs ys : List X) → AllByRecursi
 all_back P [] ys a = a
 all_back P (x ∷ xs) ys a = all_back P xs ys a.1
 
-or_false : (a b : Bool) → a || b ≡ false → (a ≡ false) × (b ≡ false)
-or_false true b e = never true refl e
-or_false false b e = (refl, e)
-
 or_cases : (a b : Bool) → a || b ≡ true → (a ≡ true) ⊎ (b ≡ true)
 or_cases true b e = inl refl
 or_cases false b e = inr e
@@ -60,7 +56,7 @@ module _ (old : Name) (new : Text) where
 
   fresh_others : (ns : List Named) → list_any (λ n. is_called (lowercase new) n.text) ns ≡ false → AllByRecursion IsFreshPlace ns
   fresh_others [] e = tt
-  fresh_others (n ∷ ns) e = let h = or_false (is_called (lowercase new) n.text) _ e in (not_called n.text h.0, fresh_others ns h.1)
+  fresh_others (n ∷ ns) e = let h = or_parts (is_called (lowercase new) n.text) _ e in (not_called n.text h.0, fresh_others ns h.1)
 
   fresh_same : (ns : List Named) → old ≡ lowercase new → AllByRecursion IsFreshPlace ns
   fresh_same [] e = tt
@@ -71,7 +67,7 @@ module _ (old : Name) (new : Text) where
     where
       by : (b : Bool) → bytes_eq (lowercase new) old ≡ b → not b && (list_any (λ n. is_called (lowercase new) n.text) ns || core) ≡ false → AllByRecursion IsFreshPlace ns
       by true same f = fresh_same ns (sym (same_is (lowercase new) old same))
-      by false other f = fresh_others ns (or_false (list_any (λ n. is_called (lowercase new) n.text) ns) core f).0
+      by false other f = fresh_others ns (or_parts (list_any (λ n. is_called (lowercase new) n.text) ns) core f).0
 
   pub fresh_names : (ns : List Named) → AllByRecursion IsFreshPlace ns → AreFresh old new (map (λ place. lowercase place.text) ns)
   fresh_names [] a = tt

@@ -1,5 +1,7 @@
 pub mod ItemShapes
+pub mod MappedTrees
 pub mod TreeLaws
+pub mod LikeTrees
 pub mod Rows
 pub mod SaidLaws
 pub mod Shapes

@@ -4,6 +4,7 @@ use Rattle.std.specs.Prelude.{if◌then◌else◌, filter, fold, position, slice
 use Rattle.std.specs.List.{list_any, AllByRecursion}
 use Rattle.std.specs.Str.{bytes_eq}
 use Rattle.std.proofs.lemmas.List.{length-map}
+use Rattle.std.proofs.lemmas.Option.{same_Some}
 use Rattle.abnf_token.specs.Classes.{Text}
 use Rattle.abnf_token.specs.Folded.{lowercase}
 use Rattle.abnf_parts.specs.Names.{Name, with_name, rule_number}
@@ -139,8 +140,5 @@ number_get n (a ∷ names) q e = by (λ k f. number_get n names k f) (bytes_eq n
     by more true s h = subst (λ j. slice_get (a ∷ names) j ≡ Some n) (let x : 0 ≡ q = cc in x) (ap Some (sym (same_is n a s)))
     by more false s h = get_suc names a (position (bytes_eq n) names) q n more h
 
-some_same : {A : Type 0} (x y : A) → ◌≡◌ {A = Option A} (Some x) (Some y) → x ≡ y
-some_same x y h = cc
-
 pub one_name : (n m : Name) (names : List Name) (q : ℕ) → position (bytes_eq n) names ≡ Some q → position (bytes_eq m) names ≡ Some q → n ≡ m
-one_name n m names q e f = some_same n m (sym (number_get n names q e) ∙ number_get m names q f)
+one_name n m names q e f = same_Some n m (sym (number_get n names q e) ∙ number_get m names q f)

@@ -5,12 +5,13 @@ use Rattle.std.specs.List.{list_any}
 use Rattle.std.specs.Option.{is_some}
 use Rattle.std.specs.Str.{bytes_eq}
 use Rattle.std.proofs.lemmas.Option.{slice_get_within}
+use Rattle.std.proofs.lemmas.Bool.{or_parts}
 use Rattle.abnf_token.specs.Classes.{Text}
 use Rattle.abnf_token.specs.Folded.{lowercase}
 use Rattle.abnf_parts.specs.Names.{Name, rule_number}
 use Rattle.abnf_parts.proofs.NameLaws.{position_cons, position_append, behind, never, same_is, position_any}
 use Rattle.abnf_rename.specs.Rules.{name_after}
-use Rattle.abnf_names.proofs.Once.{IsOnce, or_false}
+use Rattle.abnf_names.proofs.Once.{IsOnce}
 use Rattle.abnf_rename.proofs.NameLaws.{number_get}
 
 -- the place of a name that is there
@@ -43,7 +44,7 @@ module _ (old : Name) (new : Text) where
   others_kept : (names : List Name) → list_any (bytes_eq old) names ≡ false → map (name_after old new) names ≡ names
   others_kept [] e = refl
   others_kept (n ∷ names) e =
-      let h = or_false (bytes_eq old n) (list_any (bytes_eq old) names) e in
+      let h = or_parts (bytes_eq old n) (list_any (bytes_eq old) names) e in
       (λ i. (let s : name_after old new n ≡ n = ap (λ b. if b then lowercase new else n) h.0 in s) i ∷ others_kept names h.1 i)
 
   get_suc : (n : Name) (names : List Name) (o : Option ℕ) (i : ℕ) → ((k : ℕ) → o ≡ Some k → map (name_after old new) names ≡ slice_set names k (lowercase new)) → option_map suc o ≡ Some i →

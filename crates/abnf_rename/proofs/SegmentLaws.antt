@@ -3,7 +3,7 @@ use Rattle.std.proofs.Common.{◌≡◌, ℕ, zero, suc, ◌+◌, ◌<◌, Bool,
 use Rattle.std.specs.Prelude.{if◌then◌else◌, nat_lt}
 use Rattle.std.specs.List.{list_any}
 use Rattle.std.proofs.Math.Seq.{take-append_seam, drop-append_seam, drop-append-add}
-use Rattle.std.proofs.lemmas.Bool.{lt-ltb}
+use Rattle.std.proofs.lemmas.Bool.{lt-ltb, or_parts}
 use Rattle.std.proofs.lemmas.List.{append-nil}
 use Rattle.ls_text.specs.Lines.{lines, starts_with_lf, is_break}
 use Rattle.ls_text.specs.Edits.{replaced, greater}
@@ -146,10 +146,6 @@ module _ (new : List ℕ) (solid : IsSolid new) (new_plain : IsPlain new) where
       assoc true b c = refl
       assoc false b c = refl
 
-  or_false : (a b : Bool) → a || b ≡ false → (a ≡ false) × (b ≡ false)
-  or_false true b e = absurd (cc (e))
-  or_false false b e = (refl, e)
-
   plain_by : (b : Bool) (x ys : List ℕ) → IsPlain x → IsPlain ys → IsPlain ((if b then new else x) ++ ys)
   plain_by true x ys p q = any_append new ys ∙ (λ i. new_plain i || q i)
   plain_by false x ys p q = any_append x ys ∙ (λ i. p i || q i)
@@ -157,7 +153,7 @@ module _ (new : List ℕ) (solid : IsSolid new) (new_plain : IsPlain new) where
   plain_changed : (xs : List Segment) → IsPlain (plain xs) → IsPlain (changed new xs)
   plain_changed [] p = refl
   plain_changed (x ∷ xs) p =
-      let h = or_false (list_any is_break x.1) (list_any is_break (plain xs)) (sym (any_append x.1 (plain xs)) ∙ p) in
+      let h = or_parts (list_any is_break x.1) (list_any is_break (plain xs)) (sym (any_append x.1 (plain xs)) ∙ p) in
       plain_by x.0 x.1 (changed new xs) h.0 (plain_changed xs h.1)
 
   one_plain : (xs : List Segment) → IsPlain (plain xs) → IsPlain (changed new xs ++ [])

@@ -1,36 +1,11 @@
 -- Trees that are the same but for a name generate the same strings and reach opaque parts from the same rules.
-use Rattle.std.proofs.Common.{◌≡◌, ℕ, zero, suc, ◌<◌, Option, Some, None, option_map, List, [], ◌∷◌, ◌++◌, length, map, refl, sym, ap, subst, ◌∙◌, arith, inl, inr}
-use Rattle.std.specs.Prelude.{slice_get, slice_index_or, Contains}
+use Rattle.std.proofs.Common.{◌≡◌, ℕ, zero, suc, Some, None, List, [], ◌∷◌, ◌++◌, map, refl, sym, ap, subst, ◌∙◌, inl, inr}
 use Rattle.std.specs.List.{AllByRecursion}
 use Rattle.std.proofs.lemmas.List.{map-append}
-use Rattle.std.proofs.lemmas.Option.{slice_get-map}
 use Rattle.abnf_parts.specs.Part.{Part, Parts, quoted, series, span, seq, alt, rep, ref, opaque, end, next, subparts, all_subparts}
 use Rattle.abnf_parts.specs.Generates.{PartGen, EachGen, SomeGen, RuleGen, Gen, IsLeastPair}
-use Rattle.abnf_parts.specs.Reach.{ReachesBy}
+use Rattle.abnf_rename.proofs.MappedTrees.{KeepsParts, get_back, get_there, reaches}
 use Rattle.abnf_rename.specs.Parts.{renamed_name, renamed_part, renamed_parts, renamed_rules, KeepsMeaning}
-
--- ---- lists
-
-module _ {A B : Type 0} (f : A → B) where
-  map_contains : (xs : List A) (x : A) (k : ℕ) → k < length xs → slice_index_or xs k x ≡ x → Contains (map f xs) (f x)
-  map_contains [] x k lt e = absurd (omega (arith, lt))
-  map_contains (y ∷ xs) x zero lt e = (0, omega arith, ap f e)
-  map_contains (y ∷ xs) x (suc k) lt e = let h = map_contains xs x k (omega arith) e in (suc h.0, omega (arith, h.1), h.2)
-
-  map_back : (xs : List A) (y : B) (k : ℕ) → k < length (map f xs) → slice_index_or (map f xs) k y ≡ y → (x : A) × Contains xs x × (f x ≡ y)
-  map_back [] y k lt e = absurd (omega (arith, lt))
-  map_back (x ∷ xs) y zero lt e = (x, (0, omega arith, refl), e)
-  map_back (x ∷ xs) y (suc k) lt e = let h = map_back xs y k (omega arith) e in (h.0, (suc h.1.0, omega (arith, h.1.1), h.1.2), h.2)
-
-  get_by : (o : Option A) (y : B) → option_map f o ≡ Some y → (x : A) × (o ≡ Some x) × (f x ≡ y)
-  get_by None y e = absurd (cc)
-  get_by (Some x) y e = (x, refl, cc)
-
-  get_back : (xs : List A) (k : ℕ) (y : B) → slice_get (map f xs) k ≡ Some y → (x : A) × (slice_get xs k ≡ Some x) × (f x ≡ y)
-  get_back xs k y e = get_by (slice_get xs k) y (sym (slice_get-map f xs k) ∙ e)
-
-  get_there : (xs : List A) (k : ℕ) (x : A) → slice_get xs k ≡ Some x → slice_get (map f xs) k ≡ Some (f x)
-  get_there xs k x e = slice_get-map f xs k ∙ ap (option_map f) e
 
 all_to : {P Q : List ℕ → Type 0} (h : (s : List ℕ) → P s → Q s) (ss : List (List ℕ)) → AllByRecursion P ss → AllByRecursion Q ss
 all_to h [] a = tt
@@ -146,41 +121,19 @@ module _ (r : ℕ) (new : List ℕ) where
   ref_back (ref other rule) name q e = let same : rule ≡ Some q = cc in (other, ap (ref other) same)
   ref_back opaque name q e = absurd (cc)
 
-  has_to : (p root : Part) → Contains (subparts root) p → Contains (subparts (renamed_part r new root)) (renamed_part r new p)
-  has_to p root c = subst (λ l. Contains l (renamed_part r new p)) (sym (subparts_renamed root)) (map_contains (renamed_part r new) (subparts root) p c.0 c.1 c.2)
-
-  has_from : (p root : Part) → Contains (subparts (renamed_part r new root)) p → (x : Part) × Contains (subparts root) x × (renamed_part r new x ≡ p)
-  has_from p root c =
-      let d : Contains (map (renamed_part r new) (subparts root)) p = subst (λ l. Contains l p) (subparts_renamed root) c in
-      map_back (renamed_part r new) (subparts root) p d.0 d.1 d.2
-
-  module _ (rules : List Part) where
-    reach_to : (uses q : ℕ) → ReachesBy rules uses q → ReachesBy (renamed_rules r new rules) uses q
-    reach_to zero q h = (renamed_part r new h.0, get_there (renamed_part r new) rules q h.0 h.1, has_to opaque h.0 h.2)
-    reach_to (suc uses) q h = (
-      renamed_part r new h.0,
-      get_there (renamed_part r new) rules q h.0 h.1,
-      renamed_name r new h.2 (Some h.3),
-      h.3,
-      has_to (ref h.2 (Some h.3)) h.0 h.4,
-      reach_to uses h.3 h.5,
-    )
-
-    reach_from : (uses q : ℕ) → ReachesBy (renamed_rules r new rules) uses q → ReachesBy rules uses q
-    reach_from zero q h =
-        let b = get_back (renamed_part r new) rules q h.0 h.1 in
-        let c = has_from opaque b.0 (subst (λ p. Contains (subparts p) opaque) (sym b.2) h.2) in
-        (b.0, b.1, subst (λ p. Contains (subparts b.0) p) (opaque_back c.0 c.2) c.1)
-    reach_from (suc uses) q h =
-        let b = get_back (renamed_part r new) rules q h.0 h.1 in
-        let c = has_from (ref h.2 (Some h.3)) b.0 (subst (λ p. Contains (subparts p) (ref h.2 (Some h.3))) (sym b.2) h.4) in
-        let n = ref_back c.0 h.2 h.3 c.2 in
-        (b.0, b.1, n.0, h.3, subst (λ p. Contains (subparts b.0) p) n.1 c.1, reach_from uses h.3 h.5)
+  keeps_parts : KeepsParts (renamed_part r new)
+  keeps_parts = record {
+    inside = subparts_renamed;
+    opaque_to = refl;
+    opaque_from = opaque_back;
+    ref_to = λ name q. (renamed_name r new name (Some q), refl);
+    ref_from = ref_back;
+  }
 
 pub meaning_kept : (r : ℕ) (new : List ℕ) (rules : List Part) → KeepsMeaning rules (renamed_rules r new rules) (renamed_part r new)
 meaning_kept r new rules = record {
   generates = λ k p s. (gen_to r new rules k p s, gen_from r new rules k p s);
   rule_generates = λ k q s. (rule_to r new rules k q s, rule_from r new rules k q s);
   value = λ p n k. (value_to r new rules p n k, value_from r new rules p n k);
-  reaches = λ q. (λ h. (h.0, reach_to r new rules h.0 q h.1), λ h. (h.0, reach_from r new rules h.0 q h.1));
+  reaches = λ q. reaches (renamed_part r new) (keeps_parts r new) rules q;
 }

@@ -33,7 +33,7 @@ viewed [] = refl
 viewed (t ∷ ts) = ap (λ l. mark_of t ∷ l) (viewed ts)
 
 -- a line's marks are those of its tokens, whichever list of these is taken
-marks_are : (line : Text) (marks : List TokenMark) (at : ℕ) (ts : List Token) → AreMarks line marks → TokensOf at 0 line ts → map mark_of ts ≡ marks
+pub marks_are : (line : Text) (marks : List TokenMark) (at : ℕ) (ts : List Token) → AreMarks line marks → TokensOf at 0 line ts → map mark_of ts ≡ marks
 marks_are line marks at ts are of =
     let own = are at in
     viewed ts ∙ (ap (map viewed_mark) (one_answer line at 0 ts own.0 of own.1) ∙ (sym (viewed own.0) ∙ own.2))

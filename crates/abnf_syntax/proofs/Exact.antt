@@ -2,6 +2,7 @@
 use Rattle.std.proofs.Common.{◌≡◌, suc, true, List, [], ◌∷◌, ◌++◌, length, Option, Some, None, Result, Ok, sym, refl, subst, ◌∙◌, arith, inl, inr}
 use Rattle.std.proofs.lemmas.Bool.{cases_order}
 use Rattle.std.proofs.lemmas.List.{append-nil}
+use Rattle.std.proofs.lemmas.Option.{same_Some}
 use Rattle.abnf_syntax.specs.declared.item.Item.{Item}
 use Rattle.abnf_syntax.specs.declared.fault.SyntaxFault.{SyntaxFault}
 use Rattle.abnf_syntax.specs.declared.tree.Rule.{Rule}
@@ -55,15 +56,12 @@ same_front (x ∷ xs) ys (u ∷ us) vs h e =
     let more = same_front xs ys us vs same.1 (omega arith) in
     (λ i. same.0 i ∷ more.0 i, more.1)
 
-some_same : (x y : SyntaxFault) → ◌≡◌ {A = Option SyntaxFault} (Some x) (Some y) → x ≡ y
-some_same x y h = cc
-
 pub one_fault : (items : List Item) (x y : SyntaxFault) → Faults items x → Faults items y → x ≡ y
 one_fault items x y f g =
     elim (cases_order (length f.front) (length g.front)) [
       | inl same ↦
           let fronts = same_front f.front f.rest g.front g.rest (sym f.split ∙ g.split) same in
-          some_same x y (sym f.shows ∙ (λ i. shown (fronts.0 i) (fronts.1 i)) ∙ g.shows)
+          same_Some x y (sym f.shows ∙ (λ i. shown (fronts.0 i) (fronts.1 i)) ∙ g.shows)
       | inr order ↦ elim order [
         | inl less ↦ some_not_none (shown f.front f.rest) x f.shows (g.first f.front f.rest f.split less)
         | inr less ↦ some_not_none (shown g.front g.rest) y g.shows (f.first g.front g.rest g.split less)

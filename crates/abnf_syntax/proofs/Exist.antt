@@ -80,7 +80,8 @@ all_tokens ls has (suc n) at =
     let r = all_tokens ls has n (suc at) in
     record { tokens = (has at).0 ∷ r.tokens; count = ap suc r.count; are = ((has at).1, r.are) }
 
-abbrev Seen : List (Token × Bool) → Type 0
+-- items that say this
+abbrev pub Seen : List (Token × Bool) → Type 0
 Seen views = (items : List Item) × (map view items ≡ views)
 
 seen_behind : (apart : Bool) (ts : List (Option Token)) → Seen (items_behind apart ts)
@@ -92,7 +93,7 @@ seen_behind apart (Some t ∷ ts) = by (is_item t.kind) refl (seen_behind false 
     by true e kept past = (record { token = t; apart = apart; solid = e } ∷ kept.0, rw e (ap (λ l. (t, apart) ∷ l) kept.1))
     by false e kept past = (past.0, rw e past.1)
 
-seen : (ts : List (Option Token)) → Seen (items_of ts)
+pub seen : (ts : List (Option Token)) → Seen (items_of ts)
 seen [] = ([], refl)
 seen (None ∷ ts) = seen ts
 seen (Some t ∷ ts) = by (is_item t.kind) refl (seen_behind false ts) (seen ts)

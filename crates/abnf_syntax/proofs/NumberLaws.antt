@@ -9,6 +9,7 @@ use Rattle.std.specs.Char.{digit_value, to_ascii_lowercase}
 use Rattle.std.proofs.lemmas.Bool.{ltb-false, le-ltb, and_left, and_right}
 use Rattle.abnf_token.proofs.Language.{and_false, and_true}
 use Rattle.std.proofs.Math.Dec.{eqb-suc-zero}
+use Rattle.std.proofs.Math.Bool.{or-true}
 use Rattle.abnf_token.specs.Classes.{Text, base_of}
 use Rattle.abnf_token.specs.Numbers.{value_in, is_base, are_digits}
 use Rattle.abnf_syntax.specs.Numbers.{is_sign, parts_from, is_small, are_small, numbers_fit}
@@ -44,12 +45,8 @@ small_by false false ok n = refl
 small_is : (base : ℕ) (digits : Text) → is_small base digits ≡ nat_eq (length digits) 0 || (is_base base && gives base digits)
 small_is base digits = small_by (nat_eq (length digits) 0) (is_base base) (gives base digits) (value_in base 0 digits)
 
-or_true : (b : Bool) → b || true ≡ true
-or_true true = refl
-or_true false = refl
-
 small_good : (base : ℕ) (digits : Text) → is_base base ≡ true → gives base digits ≡ true → is_small base digits ≡ true
-small_good base digits whole h = small_is base digits ∙ rw (whole, h) (or_true (nat_eq (length digits) 0))
+small_good base digits whole h = small_is base digits ∙ rw (whole, h) (or-true (nat_eq (length digits) 0))
 
 no_length : (xs : Text) (b : ℕ) → nat_eq (length (xs ++ b ∷ [])) 0 ≡ false
 no_length [] b = eqb-suc-zero 0

@@ -152,12 +152,7 @@ impl<'s> Sheet<'s> {
         ensures lines { result ≡ line_texts snapshot.now }
         ensures small { length snapshot.now < 2 ^ 62 }
     {
-        let _count = snapshot.char_count();
-        Sheet {
-            snapshot,
-            count: count_of(snapshot),
-            top: top_from(snapshot, 0),
-        }
+        Sheet::with_top(snapshot, top_from(snapshot, 0))
     }
 
     /// The lines of a text whose first line with content is known.

@@ -1,24 +1,17 @@
 -- What the files are written in that are read, and what is said of a draft in XML that is at fault.
-use Rattle.std.specs.Prelude.{◌≡◌, ◌-◌, ℕ, Bool, ◌||◌, List, [], ◌∷◌, ◌++◌, Option, Some, None, codes, drop, length, if◌then◌else◌}
-use Rattle.std.specs.Str.{bytes_eq, str_eq_ignore_ascii_case}
+use Rattle.std.specs.Prelude.{◌≡◌, ℕ, Bool, List, [], ◌∷◌, ◌++◌, Option, Some, None, codes, if◌then◌else◌}
+use Rattle.std.specs.Str.{bytes_eq}
 use Rattle.ls_text.specs.Lines.{units}
 use Rattle.ls_text.specs.Positions.{position_of}
 use Rattle.ls_text.specs.declared.position.Encoding.TheVariants.{Utf32}
 use Rattle.xml_blocks.specs.declared.fault.XmlFault.{XmlFault}
 use Rattle.xml_blocks.specs.Faults.{fault_offset, fault_words}
+use Rattle.text_files.specs.Names.{has_ending, is_markdown}
 use Rattle.findings_text.specs.declared.outcome.Outcome.TheVariants.{Errors}
 use Rattle.findings_text.specs.declared.print.Printed.{Printed}
 use Rattle.findings_text.specs.Places.{place_text}
 use Rattle.findings_files.specs.declared.format.Format.{Format}
 use Rattle.findings_files.specs.declared.format.Format.TheVariants.{Abnf, Markdown, Text, Xml}
-
--- a file's name ends so, in any case of ASCII letters
-abbrev pub has_ending : List ℕ → List ℕ → Bool
-has_ending ending name = str_eq_ignore_ascii_case (drop (length name - length ending) name) ending
-
--- the file has the name of a draft in Markdown: it ends in `.md`, `.mkd` or `.markdown`
-abbrev pub is_markdown : List ℕ → Bool
-is_markdown name = has_ending (codes ".md") name || (has_ending (codes ".mkd") name || has_ending (codes ".markdown") name)
 
 -- what a file is written in, by the ending of its name: a draft in Markdown (`is_markdown`), one in RFCXML (`.xml`), a published text
 -- (`.txt`), or else a grammar

@@ -3,6 +3,8 @@
 ghost use Rattle.std.specs.Prelude.{◌≡◌};
 ghost use Rattle.findings_files.specs.Formats as spec;
 
+use text_files::{has_ending, is_markdown};
+
 /// What a file is written in.
 #[derive(Clone, Copy, Debug, Drop, PartialEq, Eq)]
 pub enum Format {
@@ -23,12 +25,11 @@ impl Format {
     pub fn of_file(file: &str) -> Format
         ensures { result ≡ spec.format_of file.now }
     {
-        let name = file.as_bytes();
-        if is_markdown(name) {
+        if is_markdown(file) {
             Format::Markdown
-        } else if has_ending(name, b".xml") {
+        } else if has_ending(file, ".xml") {
             Format::Xml
-        } else if has_ending(name, b".txt") {
+        } else if has_ending(file, ".txt") {
             Format::Text
         } else {
             Format::Abnf
@@ -51,19 +52,4 @@ impl Format {
             None
         }
     }
-}
-
-/// Whether a file has the name of a draft in Markdown.
-fn is_markdown(name: &[u8]) -> bool
-    ensures { result ≡ spec.is_markdown name.now }
-{
-    has_ending(name, b".md") || has_ending(name, b".mkd") || has_ending(name, b".markdown")
-}
-
-/// Whether a file's name ends so, in any case of ASCII letters.
-fn has_ending(name: &[u8], ending: &[u8]) -> bool
-    ensures { result ≡ spec.has_ending ending.now name.now }
-{
-    let start = name.len().saturating_sub(ending.len());
-    name[start..].eq_ignore_ascii_case(ending)
 }

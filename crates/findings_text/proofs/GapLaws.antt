@@ -18,7 +18,7 @@ use Rattle.abnf_lint.specs.declared.finding.Finding.{Finding}
 use Rattle.abnf_lint.specs.Order.{FindingsAscend, finding_before, key, key_cmp}
 use Rattle.abnf_lint.specs.Rows.{AreRows}
 use Rattle.abnf_lint.proofs.Ascends.{rows_unique}
-use Rattle.abnf_productive.proofs.Exist.{some_findings}
+use Rattle.abnf_lint.proofs.FindingsExist.{some_findings}
 use Rattle.findings_text.specs.Gaps.{AreKept, IsFilled, IsFilledTooLarge, behind, idle_lines, is_unproductive}
 
 -- ---- the lines rise

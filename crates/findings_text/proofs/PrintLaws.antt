@@ -11,7 +11,7 @@ use Rattle.findings_text.specs.declared.print.Printed.{Printed}
 use Rattle.findings_text.specs.Hints.{AreKnown, compared, known_names}
 use Rattle.findings_text.specs.Print.{AreFoundWith, IsPrinted, IsPrintedFrom, Locator, shown_lines}
 use Rattle.findings_text.specs.Unread.{Asides, no_asides, outcome_with}
-use Rattle.abnf_productive.proofs.Exist.{some_findings}
+use Rattle.abnf_lint.proofs.FindingsExist.{some_findings}
 
 -- what is printed of these findings, whose names are compared with these
 abbrev printed_of : Asides → List Repeat → List ℕ → Locator → List ℕ → List ℕ → List (List ℕ) → List Finding → Printed

@@ -9,9 +9,8 @@ ghost use Rattle.abnf_lint.specs.Rows.{AreRows};
 ghost use Rattle.findings_text.specs.Gaps as spec;
 
 use crate::hints::{fault_hint, is_undefined};
-use abnf_lint::{Code, Finding};
+use abnf_lint::{Code, Finding, findings_in};
 use abnf_names::Grammar;
-use abnf_productive::findings_in;
 use ls_lists::List;
 use ls_text::{Place, Snapshot, TextFault};
 use std::alloc::{AllocError as Memory, Global};

@@ -1,7 +1,6 @@
 -- A question about a draft has an answer, and one alone but for the certificate beside an example.
 use Rattle.std.proofs.Common.{arith, ◌≡◌, ℕ, ◌<◌, ◌^◌, List, [], length, map, refl, sym, ap, ◌∙◌, subst}
-use Rattle.std.specs.Prelude.{All, IfSome, false, flat_map, Option, Some, None, option_map}
-use Rattle.std.specs.List.{filter_map}
+use Rattle.std.specs.Prelude.{All, IfSome, false, Option, Some, None, option_map}
 use Rattle.std.specs.Char.{IsScalar}
 use Rattle.std.proofs.lemmas.List.{length-map}
 use Rattle.ls_text.specs.declared.position.Encoding.{Encoding}
@@ -26,13 +25,13 @@ use Rattle.draft_grammars.proofs.ScalarLaws.{all_scalars}
 use Rattle.joined_grammars.proofs.RepeatLaws.{one_repeats, some_repeats}
 use Rattle.abnf_cert.specs.declared.entry.Entry.{Entry}
 use Rattle.abnf_lint.proofs.Ascends.{rows_unique}
-use Rattle.abnf_productive.proofs.Exist.{some_findings}
+use Rattle.abnf_lint.proofs.FindingsExist.{some_findings}
 use Rattle.ls_answers.specs.Answers.{insertion_without_cert, without_cert}
 use Rattle.ls_answers.specs.DraftDiagnostics.{AreDraftDiagnostics, draft_diagnostics}
 use Rattle.ls_answers.specs.InDrafts.{AreTokensInDraft, IsAnswerInDraft, IsAnswerWith, IsCarried, IsGiven, KeepsIfRenamedInDraft, RenameKeepsInDraft, edits_unless, inward_ask, mapped, outside_answer, outward_answer, outward_tokens}
 use Rattle.ls_answers.specs.InGrammars.{IsAnswerInGrammar}
 use Rattle.ls_answers.specs.RenameKeeps.{RenameKeeps}
-use Rattle.ls_answers.specs.SemanticTokens.{AreSemanticTokens, origin, relative, told}
+use Rattle.ls_answers.specs.SemanticTokens.{AreSemanticTokens, origin, relative}
 use Rattle.ls_answers.specs.declared.ask.Ask.{Ask}
 use Rattle.ls_answers.specs.declared.ask.Ask.TheVariants as ask
 use Rattle.ls_answers.specs.declared.answer.Answer.{Answer}
@@ -157,15 +156,7 @@ module _ (format : Format) (of : Mapped) where
       (outward_answer format of found.0, record { answer_inside = found.0; right = found.1; given_is = refl })
 
   tokens_with : (numbers : List ℕ) → AreSemanticTokens Utf32 text numbers → (given : List ℕ) × AreTokensInDraft of given
-  tokens_with numbers h =
-      let tokens = flat_map (filter_map (told Utf32 h.grammar)) h.tokens in (
-        relative origin (outward_tokens of tokens),
-        record {
-          tokens = tokens;
-          reported = record { grammar = h.grammar; of_text = h.of_text; right = h.right; tokens = h.tokens; all = h.all; tokens_are = h.tokens_are; given_are = refl };
-          numbers_are = refl;
-        },
-      )
+  tokens_with numbers h = (relative origin (outward_tokens of h.tokens), record { tokens = h.tokens; reported = h.reported; numbers_are = refl })
 
   some_tokens : (a : Answer) → IsAnswerInGrammar Utf32 text ask.Tokens a → (given : Answer) × IsAnswerWith format of ask.Tokens given
   some_tokens (answer.Hover hover) p = absurd p

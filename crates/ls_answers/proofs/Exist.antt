@@ -24,7 +24,7 @@ use Rattle.abnf_cert.specs.declared.entry.Entry.{Entry}
 use Rattle.abnf_least.specs.declared.shortest.Shortest.{Shortest}
 use Rattle.abnf_least.specs.declared.shortest.Shortest.TheVariants.{Shown, Long, Huge, Nothing, NotKnown}
 use Rattle.abnf_least.proofs.SomeShown.{certificate_of, some_shown}
-use Rattle.abnf_productive.proofs.Exist.{some_findings}
+use Rattle.abnf_lint.proofs.FindingsExist.{some_findings}
 use Rattle.ls_answers.specs.InGrammars.{IsAnswerInGrammar}
 use Rattle.ls_answers.specs.Diagnostics.{AreDiagnostics, diagnostic_of}
 use Rattle.ls_answers.specs.Hover.{shown_text}
@@ -102,9 +102,14 @@ module _ (encoding : Encoding) where
   tokens : (text : List ℕ) → length text < 2 ^ 62 → (numbers : List ℕ) × AreSemanticTokens encoding text numbers
   tokens text small =
       let g = some_grammar text small in
-      let found = lists_of (line_texts text) (text_has_tokens text small) (length (line_texts text)) 0 in (
-        relative origin (flat_map (filter_map (told encoding g.0)) found.0),
-        record { grammar = g.0; of_text = g.1; right = g.2; tokens = found.0; all = found.1; tokens_are = found.2; numbers_are = refl },
+      let found = lists_of (line_texts text) (text_has_tokens text small) (length (line_texts text)) 0 in
+      let tokens = flat_map (filter_map (told encoding g.0)) found.0 in (
+        relative origin tokens,
+        record {
+          tokens = tokens;
+          reported = record { grammar = g.0; of_text = g.1; right = g.2; tokens = found.0; all = found.1; tokens_are = found.2; given_are = refl };
+          numbers_are = refl;
+        },
       )
 
   hover_of : (g : Grammar) → IsGrammar g → (range : Range) (rule : Option ℕ) → IfSome rule (λ r. r < length g.rules) → (hover : HoverText) × IsHoverOfRule g.rules range rule hover

@@ -42,17 +42,13 @@ module _ (encoding : Encoding) where
       → flat_map (filter_map (told encoding g)) tss ≡ flat_map (filter_map (told encoding g)) uss
   same_told g ls tss uss e p q = sym (lines_by_views g tss) ∙ (ap (flat_map (filter_map (told_view g))) (same_views ls 0 tss uss e p q) ∙ lines_by_views g uss)
 
-  pub one_list_of_numbers : (text xs ys : List ℕ) → AreSemanticTokens encoding text xs → AreSemanticTokens encoding text ys → xs ≡ ys
-  one_list_of_numbers text xs ys p q =
-      let same = one_grammar p.grammar q.grammar p.right q.right (p.of_text ∙ sym q.of_text) in
-      p.numbers_are
-      ∙ (ap (λ (g : Grammar). relative origin (flat_map (filter_map (told encoding g)) p.tokens)) same
-      ∙ (ap (relative origin) (same_told q.grammar (line_texts text) p.tokens q.tokens (p.all ∙ sym q.all) p.tokens_are q.tokens_are) ∙ sym q.numbers_are))
-
-  -- and one list of those that are reported
+  -- there is one list of those that are reported
   pub one_reported : (text : List ℕ) (xs ys : List SemanticToken) → AreReported encoding text xs → AreReported encoding text ys → xs ≡ ys
   one_reported text xs ys p q =
       let same = one_grammar p.grammar q.grammar p.right q.right (p.of_text ∙ sym q.of_text) in
       p.given_are
       ∙ (ap (λ (g : Grammar). flat_map (filter_map (told encoding g)) p.tokens) same
       ∙ (same_told q.grammar (line_texts text) p.tokens q.tokens (p.all ∙ sym q.all) p.tokens_are q.tokens_are ∙ sym q.given_are))
+
+  pub one_list_of_numbers : (text xs ys : List ℕ) → AreSemanticTokens encoding text xs → AreSemanticTokens encoding text ys → xs ≡ ys
+  one_list_of_numbers text xs ys p q = p.numbers_are ∙ (ap (relative origin) (one_reported text p.tokens q.tokens p.reported q.reported) ∙ sym q.numbers_are)

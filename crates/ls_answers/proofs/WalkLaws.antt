@@ -185,25 +185,6 @@ module _ (encoding : Encoding) where
       by true = refl
       by false = refl
 
-  told_tokens : (g : Grammar) (tokens : List SemanticToken) (numbers : List ℕ) → IsGrammar g → AreToldTokens encoding g tokens → numbers ≡ relative origin tokens → AreSemanticTokens encoding g.text numbers
-  told_tokens g tokens numbers right walked are =
-      let w = walked.1 in
-      let all = lines_told g (places_ascend g right) (line_texts g.text) 0 0 0 w.lines w.marks (inr (refl, omega arith)) in
-      record {
-        grammar = g;
-        of_text = refl;
-        right = right;
-        tokens = all.lists;
-        all = all.count_is ∙ w.count_is;
-        tokens_are = all.are;
-        numbers_are = are ∙ ap (relative origin) (w.told ∙ (ap (told_in_lines encoding g 0 w.lines) (sym (from_start g.places)) ∙ all.told_are));
-      }
-
-  pub told_numbers : {E : Type 0} (g : Grammar) (tokens given : List SemanticToken) (numbers : Result (List ℕ) E) → IsGrammar g → AreToldTokens encoding g tokens → given ≡ tokens
-      → IfOk numbers (λ numbers. numbers ≡ relative origin given) → IfOk numbers (λ numbers. AreSemanticTokens encoding g.text numbers)
-  told_numbers g tokens given (Ok numbers) right walked same are = told_tokens g tokens numbers right walked (are ∙ ap (relative origin) same)
-  told_numbers g tokens given (Err e) right walked same are = are
-
   reported_all : (g : Grammar) (tokens : List SemanticToken) → IsGrammar g → AreToldTokens encoding g tokens → AreReported encoding g.text tokens
   reported_all g tokens right walked =
       let w = walked.1 in
@@ -217,6 +198,11 @@ module _ (encoding : Encoding) where
         tokens_are = all.are;
         given_are = w.told ∙ (ap (told_in_lines encoding g 0 w.lines) (sym (from_start g.places)) ∙ all.told_are);
       }
+
+  pub told_numbers : {E : Type 0} (g : Grammar) (tokens given : List SemanticToken) (numbers : Result (List ℕ) E) → IsGrammar g → AreToldTokens encoding g tokens → given ≡ tokens
+      → IfOk numbers (λ numbers. numbers ≡ relative origin given) → IfOk numbers (λ numbers. AreSemanticTokens encoding g.text numbers)
+  told_numbers g tokens given (Ok numbers) right walked same are = record { tokens = tokens; reported = reported_all g tokens right walked; numbers_are = are ∙ ap (relative origin) same }
+  told_numbers g tokens given (Err e) right walked same are = are
 
   pub reported_given : {E : Type 0} (g : Grammar) (tokens : Result (List SemanticToken) E) → IsGrammar g → IfOk tokens (λ tokens. AreToldTokens encoding g tokens) → IfOk tokens (λ tokens. AreReported encoding g.text tokens)
   reported_given g (Ok tokens) right walked = reported_all g tokens right walked

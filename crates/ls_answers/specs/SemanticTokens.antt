@@ -89,17 +89,7 @@ relative before (token ∷ tokens) = numbers_of before token ++ relative token.r
 abbrev pub origin : Position
 origin = record { line = 0; character = 0 }
 
--- These are the numbers of the tokens of each line of the text, in its order, but of blanks and bad tokens.
-pub record AreSemanticTokens (encoding : Encoding) (text : List ℕ) (numbers : List ℕ) : Type 0 where
-  pub grammar : Grammar
-  pub of_text : grammar.text ≡ text
-  pub right : IsGrammar grammar
-  pub tokens : List (List Token)
-  pub all : length tokens ≡ length (line_texts text)
-  pub tokens_are : AreTokens (line_texts text) 0 tokens
-  pub numbers_are : numbers ≡ relative origin (flat_map (filter_map (told encoding grammar)) tokens)
-
--- These are the tokens of the text that are reported, in its order.
+-- These are the tokens of the text that are reported: those of each line, in its order, but blanks and bad tokens.
 pub record AreReported (encoding : Encoding) (text : List ℕ) (given : List SemanticToken) : Type 0 where
   pub grammar : Grammar
   pub of_text : grammar.text ≡ text
@@ -108,3 +98,9 @@ pub record AreReported (encoding : Encoding) (text : List ℕ) (given : List Sem
   pub all : length tokens ≡ length (line_texts text)
   pub tokens_are : AreTokens (line_texts text) 0 tokens
   pub given_are : given ≡ flat_map (filter_map (told encoding grammar)) tokens
+
+-- These are the numbers of the tokens of the text that are reported.
+pub record AreSemanticTokens (encoding : Encoding) (text : List ℕ) (numbers : List ℕ) : Type 0 where
+  pub tokens : List SemanticToken
+  pub reported : AreReported encoding text tokens
+  pub numbers_are : numbers ≡ relative origin tokens

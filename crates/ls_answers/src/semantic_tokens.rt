@@ -117,10 +117,20 @@ fn told(alloc: Global, grammar: &Grammar, encoding: Encoding) -> Result<List<Sem
     let mut tokens = List::new(alloc);
     let mut passed = 0;
     for line in 0..snapshot.line_count() {
-        let marks = marks_at(snapshot, line);
-        passed = push_line(&mut tokens, grammar, &mut ruler, spots, passed, line, marks)?;
+        let marked = MarkedLine {
+            line,
+            marks: marks_at(snapshot, line),
+        };
+        passed = push_line(&mut tokens, grammar, &mut ruler, spots, passed, &marked)?;
     }
     Ok(tokens)
+}
+
+/// A line, by its number, and the marks of its tokens.
+#[derive(Clone, Copy)]
+struct MarkedLine<'m> {
+    line: usize,
+    marks: &'m [TokenMark],
 }
 
 /// The marks of a line, none behind the last line.
@@ -140,20 +150,19 @@ fn push_line(
     ruler: &mut Ruler<'_>,
     spots: &[Spot<'_>],
     passed: usize,
-    line: usize,
-    marks: &[TokenMark],
+    marked: &MarkedLine<'_>,
 ) -> Result<usize, Memory>
     requires text { ruler.old.text ≡ grammar.now.text }
     requires within { passed ≤ length spots.now }
     ensures text { ruler.new ≡ ruler.old }
     ensures within { IfOk result (λ now. now ≤ length spots.now) }
-    ensures left { IfOk result (λ now. map named_at (drop now spots.now) ≡ walk.left_behind line marks.now (map named_at (drop passed spots.now))) }
-    ensures told { OnOk result (tokens.new ≡ tokens.old ++ walk.told_in_line ruler.old.encoding grammar.now line marks.now (map named_at (drop passed spots.now))) }
+    ensures left { IfOk result (λ now. map named_at (drop now spots.now) ≡ walk.left_behind marked.now.line marked.now.marks.now (map named_at (drop passed spots.now))) }
+    ensures told { OnOk result (tokens.new ≡ tokens.old ++ walk.told_in_line ruler.old.encoding grammar.now marked.now.line marked.now.marks.now (map named_at (drop passed spots.now))) }
 {
     let mut now = passed;
-    for mark in marks {
-        now = passed_at(spots, now, line, mark.start as usize);
-        if let Some(token) = told_of(grammar, ruler, &spots[now..], line, mark) {
+    for mark in marked.marks {
+        now = passed_at(spots, now, marked.line, mark.start as usize);
+        if let Some(token) = told_of(grammar, ruler, &spots[now..], marked.line, mark) {
             tokens.push(token)?;
         }
     }

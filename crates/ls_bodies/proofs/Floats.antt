@@ -11,7 +11,8 @@ use Rattle.ls_answers.specs.declared.answer.Answer.TheVariants as answer
 use Rattle.ls_answers.specs.declared.answer.DraftAnswer.TheVariants as draft_answer
 use Rattle.ls_text.specs.declared.position.Range.{Range}
 use Rattle.ls_bodies.specs.Bodies.{answer_json, answered_json, diagnostic_json, draft_diagnostic_json, found_json, location_json, published_json, symbol_json}
-use Rattle.ls_bodies.specs.Edits.{edit_json, edits_json, empty_range, workspace_edit_json}
+use Rattle.draft_grammars.specs.Places.{empty_range}
+use Rattle.ls_bodies.specs.Edits.{edit_json, edits_json, workspace_edit_json}
 use Rattle.ls_bodies.specs.Tokens.{count_json}
 use Rattle.ls_bodies.proofs.Arrays.{has_no_float}
 

@@ -5,6 +5,7 @@ use Rattle.serde_json.specs.Find.{of_integer}
 use Rattle.serde_json.specs.View.{items_of}
 use Rattle.ls_text.specs.declared.position.Position.{Position}
 use Rattle.ls_text.specs.declared.position.Range.{Range}
+use Rattle.draft_grammars.specs.Places.{empty_range}
 use Rattle.ls_answers.specs.declared.answer.Insertion.{Insertion}
 use Rattle.ls_bodies.specs.Positions.{range_json}
 
@@ -44,10 +45,6 @@ document_changes_json uri label edits =
 -- "WorkspaceEdit")
 abbrev pub workspace_edit_json : List ℕ → ℤ → Bool → Data → Data
 workspace_edit_json uri label links edits = if links then document_changes_json uri label edits else changes_json uri edits
-
--- nothing stands in it (LSP 3.17, "Range")
-abbrev pub empty_range : Position → Range
-empty_range position = record { start = position; end = position }
 
 -- an action of the kind `refactor` that inserts a text at a position, in the place of an empty range (LSP 3.17, "Code Action Request")
 abbrev pub action_json : List ℕ → ℤ → Bool → Insertion → Data

@@ -1,7 +1,8 @@
 //! The JSON of edits and of code actions (LSP 3.17, "WorkspaceEdit" and "Code Action Request").
 ghost use Rattle.std.specs.Prelude.{◌≡◌, [], ◌∷◌, OnOk, Some};
 ghost use Rattle.serde_json.specs.Events.{SendsValue};
-ghost use Rattle.ls_bodies.specs.Edits.{action_json, actions_json, changes_json, document_changes_json, document_edit_json, edit_json, edits_json, empty_range, versioned_json, workspace_edit_json};
+ghost use Rattle.draft_grammars.specs.Places.{empty_range};
+ghost use Rattle.ls_bodies.specs.Edits.{action_json, actions_json, changes_json, document_changes_json, document_edit_json, edit_json, edits_json, versioned_json, workspace_edit_json};
 
 use crate::bodies::Document;
 use crate::positions::write_range;

@@ -13,15 +13,18 @@ use Rattle.ls_machine.specs.declared.state.State.{State}
 use Rattle.ls_machine.specs.declared.state.Entry.{Entry}
 use Rattle.ls_machine.specs.declared.state.Entry.TheVariants.{Body, Failure, Outcome}
 use Rattle.ls_machine.specs.Machine.{step, IsPossible, told_to, end_of, ends, is_ended, content_modified}
-use Rattle.ls_machine.specs.Counts.{count_one, counted, is_client, total}
+use Rattle.ls_machine.specs.Counts.{count_one, counted, first, is_client, total}
 use Rattle.ls_machine.specs.Journal.{replay_from, IsLegalFrom, IsCutAt, IsPast}
-use Rattle.ls_machine.proofs.Replays.{counted_push, cut_push, legal_push, past_more, past_state, replay_one, replay_push, total_counted, total_one}
+use Rattle.ls_machine.proofs.Replays.{counted_none, counted_push, cut_push, legal_none, legal_push, past_more, past_state, replay_none, replay_one, replay_push, total_counted, total_one}
 use Rattle.ls_machine.proofs.Taken.{WereTaken, taken_all}
 use Rattle.ls_machine.specs.Outs.{entry_for}
 use Rattle.ls_desk.specs.Anew.{IsEndedBy, base_after, journal_after}
-use Rattle.ls_desk.specs.Stands.{Seen, Answers, IsOutFor, AreOutsFor, Enters, failed_to, failed_by, failures, fresh, fresh_for, out_of}
+use Rattle.ls_desk.specs.Stands.{Seen, Answers, IsOutFor, AreOutsFor, Enters, failed_to, failed_by, failures, fresh, fresh_for, out_of, state_of, used}
 use Rattle.ls_desk.specs.declared.present.Present.{Present}
+use Rattle.ls_desk.specs.declared.history.History.{History}
+use Rattle.ls_desk.specs.own.Held.{Held, room_after}
 use Rattle.ls_desk.specs.own.Kept.{IsKept}
+use Rattle.ls_desk.specs.own.Writes.{Writes}
 
 pub outs_length : (es : List Entry) (os : List Out) → AreOutsFor es os → length os ≡ length es
 unfolding AreOutsFor
@@ -75,21 +78,11 @@ pub record Stepped (s : State) (e : Event) (N N' : Present) (O' : List Out) : Ty
   pub versions : N'.next_version ≤ N.next_version + 1
   pub tickets : N'.next_ticket ≤ N.next_ticket + 1
 
-pub holds : (B : Base) (J : List Event) (C : Counts) (N : Present) (O : List Out) (longest most room : ℕ)
-    → IsKept B J C N O longest most room → Holds (replay_from B.state J) N O
-holds B J C N O longest most room kept = record {
-  documents_are = kept.documents_are;
-  waiting_are = kept.waiting_are;
-  version_is = kept.version_is;
-  ticket_is = kept.ticket_is;
-  outs = kept.outs;
-}
-
 abbrev pub seen : Base → List Event → List Out → ℕ → ℕ → List Event → Seen
 seen B J O longest most D = record { base = B; journal = J; outbox = O; max_journal = longest; max_events = most; ended = D }
 
 -- an event comes to the journal, which began anew before it or not, and the desk stands for the state after it
-pub record Goes (B : Base) (J : List Event) (C : Counts) (x : Option State) (e : Event) (B' : Base) (J' : List Event) (C' : Counts) (N' : Present) (O' : List Out) (longest most room' : ℕ) : Type 0 where
+record Goes (B : Base) (J : List Event) (C : Counts) (x : Option State) (e : Event) (B' : Base) (J' : List Event) (C' : Counts) (N' : Present) (O' : List Out) (longest most room' : ℕ) : Type 0 where
   pub possible : IsPossible (replay_from B.state J) e
   pub base : B' ≡ base_after x C B
   pub journal : J' ≡ journal_after x J ++ e ∷ []
@@ -107,6 +100,59 @@ push_some : (es : List Event) (e : Event) → es ++ e ∷ [] ≡ [] → ⊥
 push_some [] e h = cc
 push_some (x ∷ es) e h = cc
 
+-- the journal to which an event comes, as it is or begun anew
+record Ready (B : Base) (J : List Event) (C : Counts) (s : State) (e : Event) (longest most : ℕ) : Type 0 where
+  pub state : replay_from B.state J ≡ s
+  pub past : (past : List Event) × IsPast most B past
+  pub legal : IsLegalFrom most (total B.counts) B.state J
+  pub cut : IsCutAt longest (J ++ e ∷ [])
+  pub counts_are : C ≡ counted B.counts J
+  pub checkpoints : B.checkpoints ≤ total B.counts
+  pub earlier : total B.counts ≤ total C
+  pub first_is : B.checkpoints ≡ 0 → B ≡ first
+  pub least : 0 < longest
+  pub limited : most < 18446744073709551615
+
+-- the event has come to it
+pushed : (B : Base) (J : List Event) (C : Counts) (s : State) (e : Event) (N N' : Present) (O' : List Out) (longest most room' : ℕ)
+    → Ready B J C s e longest most
+    → Stepped s e N N' O'
+    → N.next_version ≤ total C + 1 → N.next_ticket ≤ total C + 1
+    → total C + 1 + length O' ≤ most
+    → length J + 1 + length O' ≤ room'
+    → IsKept B (J ++ e ∷ []) (count_one C e) N' O' longest most room'
+pushed B J C s e N N' O' longest most room' ready stepped versions tickets used reserved =
+    let now : step s e ≡ replay_from B.state (J ++ e ∷ []) = sym (replay_push B.state J e ∙ ap (λ (x : State). step x e) ready.state) in
+    let H : State → Type 0 = λ x. Holds x N' O' in
+    let P : State → Type 0 = λ x. IsPossible x e in
+    let L : State → Type 0 = λ x. total B.counts + length J + 1 + length (step x e).unsent ≤ most in
+    let held : Holds (replay_from B.state (J ++ e ∷ [])) N' O' = subst H now stepped.holds in
+    let outs : length O' ≡ length (step s e).unsent = outs_length (step s e).unsent O' stepped.holds.outs in
+    let one = total_one C e in
+    let all : total C ≡ total B.counts + length J = ap total ready.counts_are ∙ total_counted B.counts J in
+    let len : length (J ++ e ∷ []) ≡ length J + 1 = omega (arith, length-append J (e ∷ [])) in
+    record {
+      documents_are = held.documents_are;
+      waiting_are = held.waiting_are;
+      version_is = held.version_is;
+      ticket_is = held.ticket_is;
+      outs = held.outs;
+      past = ready.past;
+      legal = legal_push most (total B.counts) B.state J e ready.legal (subst P (sym ready.state) stepped.possible) (subst L (sym ready.state) (omega arith));
+      cut = ready.cut;
+      counts_are = ap (λ (c : Counts). count_one c e) ready.counts_are ∙ sym (counted_push B.counts J e);
+      versions = let b = stepped.versions in omega arith;
+      tickets = let b = stepped.tickets in omega arith;
+      checkpoints = ready.checkpoints;
+      earlier = let a = ready.earlier in omega arith;
+      first_is = ready.first_is;
+      begun = λ h. absurd (push_some J e h);
+      least = ready.least;
+      most = ready.limited;
+      used = omega arith;
+      reserved = omega arith;
+    }
+
 -- the journal goes on
 on : (B : Base) (J : List Event) (C : Counts) (N : Present) (O : List Out) (longest most room : ℕ) (e : Event)
     (N' : Present) (O' : List Out) (room' : ℕ)
@@ -117,54 +163,26 @@ on : (B : Base) (J : List Event) (C : Counts) (N : Present) (O : List Out) (long
     → length J + 1 + length O' ≤ room'
     → Goes B J C None e B (J ++ e ∷ []) (count_one C e) N' O' longest most room'
 on B J C N O longest most room e N' O' room' kept late stepped used reserved =
-    let s = replay_from B.state J in
-    let now : replay_from B.state (J ++ e ∷ []) ≡ step s e = replay_push B.state J e in
-    let len : length (J ++ e ∷ []) ≡ length J + 1 = omega (arith, length-append J (e ∷ [])) in
-    let outs : length O' ≡ length (step s e).unsent = outs_length (step s e).unsent O' stepped.holds.outs in
-    let one = total_one C e in
-    let all : total C ≡ total B.counts + length J = ap total kept.counts_are ∙ total_counted B.counts J in
-    let P : State → Type 0 = λ x. AreOutsFor x.unsent O' in
-    record {
-      possible = stepped.possible;
-      base = refl;
-      journal = refl;
-      state = now;
-      counts = refl;
-      kept = record {
-        documents_are = stepped.holds.documents_are ∙ ap (λ x. x.documents) (sym now);
-        waiting_are = stepped.holds.waiting_are ∙ ap (λ x. x.waiting) (sym now);
-        version_is = stepped.holds.version_is ∙ ap (λ x. x.next_version) (sym now);
-        ticket_is = stepped.holds.ticket_is ∙ ap (λ x. x.next_ticket) (sym now);
-        outs = subst P (sym now) stepped.holds.outs;
-        past = kept.past;
-        legal = legal_push most (total B.counts) B.state J e kept.legal stepped.possible (omega arith);
-        cut = cut_push longest J e kept.cut late;
-        counts_are = ap (λ (c : Counts). count_one c e) kept.counts_are ∙ sym (counted_push B.counts J e);
-        versions = let a = kept.versions in let b = stepped.versions in omega arith;
-        tickets = let a = kept.tickets in let b = stepped.tickets in omega arith;
-        checkpoints = kept.checkpoints;
-        earlier = let a = kept.earlier in omega arith;
-        first_is = kept.first_is;
-        begun = λ h. absurd (push_some J e h);
-        least = kept.least;
-        most = kept.most;
-        used = omega arith;
-        reserved = omega arith;
-      };
-    }
-
-legal_one : (most n : ℕ) (s : State) (e : Event) → IsPossible s e → n + 1 + length (step s e).unsent ≤ most → IsLegalFrom most n s (e ∷ [])
-unfolding IsLegalFrom
-legal_one most n s e possible fits = (possible, fits, tt)
+    let ready : Ready B J C (replay_from B.state J) e longest most = record {
+      state = refl;
+      past = kept.past;
+      legal = kept.legal;
+      cut = cut_push longest J e kept.cut late;
+      counts_are = kept.counts_are;
+      checkpoints = kept.checkpoints;
+      earlier = kept.earlier;
+      first_is = kept.first_is;
+      least = kept.least;
+      limited = kept.most;
+    } in
+    let now = replay_push B.state J e in
+    let after = pushed B J C (replay_from B.state J) e N N' O' longest most room' ready stepped kept.versions kept.tickets used reserved in
+    record { possible = stepped.possible; base = refl; journal = refl; state = now; counts = refl; kept = after }
 
 cut_one : (longest : ℕ) (e : Event) → 0 < longest → IsCutAt longest (e ∷ [])
 unfolding IsCutAt
 cut_one zero e h = absurd (omega arith)
 cut_one (suc longest) e h = tt
-
-counted_one : (C : Counts) (e : Event) → counted C (e ∷ []) ≡ count_one C e
-unfolding counted
-counted_one C e = refl
 
 -- the journal begins anew
 anew : (B : Base) (J : List Event) (C : Counts) (N : Present) (O : List Out) (longest most room : ℕ) (e : Event)
@@ -177,40 +195,23 @@ anew : (B : Base) (J : List Event) (C : Counts) (N : Present) (O : List Out) (lo
     → Goes B J C (Some (replay_from B.state J)) e (record { state = replay_from B.state J; counts = C; checkpoints = B.checkpoints + 1 }) (e ∷ []) (count_one C e) N' O' longest most room'
 anew B J C N O longest most room e N' O' room' kept long stepped used reserved =
     let s = replay_from B.state J in
-    let now : replay_from s (e ∷ []) ≡ step s e = replay_one s e in
-    let outs : length O' ≡ length (step s e).unsent = outs_length (step s e).unsent O' stepped.holds.outs in
-    let one = total_one C e in
+    let base : Base = record { state = s; counts = C; checkpoints = B.checkpoints + 1 } in
     let all : total C ≡ total B.counts + length J = ap total kept.counts_are ∙ total_counted B.counts J in
-    let P : State → Type 0 = λ x. AreOutsFor x.unsent O' in
     let Q : Counts → Type 0 = λ c. IsPast most (record { state = s; counts = c; checkpoints = B.checkpoints + 1 }) (kept.past.0 ++ J) in
-    record {
-      possible = stepped.possible;
-      base = refl;
-      journal = refl;
-      state = now;
-      counts = refl;
-      kept = record {
-        documents_are = stepped.holds.documents_are ∙ ap (λ x. x.documents) (sym now);
-        waiting_are = stepped.holds.waiting_are ∙ ap (λ x. x.waiting) (sym now);
-        version_is = stepped.holds.version_is ∙ ap (λ x. x.next_version) (sym now);
-        ticket_is = stepped.holds.ticket_is ∙ ap (λ x. x.next_ticket) (sym now);
-        outs = subst P (sym now) stepped.holds.outs;
-        past = (kept.past.0 ++ J, subst Q (sym kept.counts_are) (past_more most B kept.past.0 J (B.checkpoints + 1) kept.past.1 kept.legal));
-        legal = legal_one most (total C) s e stepped.possible (omega arith);
-        cut = cut_one longest e kept.least;
-        counts_are = sym (counted_one C e);
-        versions = let a = kept.versions in let b = stepped.versions in omega arith;
-        tickets = let a = kept.tickets in let b = stepped.tickets in omega arith;
-        checkpoints = let a = kept.checkpoints in let b = kept.least in omega arith;
-        earlier = omega arith;
-        first_is = λ h. absurd (omega (arith, h));
-        begun = λ h. absurd (push_some [] e h);
-        least = kept.least;
-        most = kept.most;
-        used = omega arith;
-        reserved = omega arith;
-      };
-    }
+    let ready : Ready base [] C s e longest most = record {
+      state = replay_none s;
+      past = (kept.past.0 ++ J, subst Q (sym kept.counts_are) (past_more most B kept.past.0 J (B.checkpoints + 1) kept.past.1 kept.legal));
+      legal = legal_none most (total C) s;
+      cut = cut_one longest e kept.least;
+      counts_are = sym (counted_none C);
+      checkpoints = (let a = kept.checkpoints in let b = kept.least in omega arith);
+      earlier = omega arith;
+      first_is = λ h. absurd (omega (arith, h));
+      least = kept.least;
+      limited = kept.most;
+    } in
+    let after = pushed base [] C s e N N' O' longest most room' ready stepped kept.versions kept.tickets used (omega arith) in
+    record { possible = stepped.possible; base = refl; journal = refl; state = replay_one s e; counts = refl; kept = after }
 
 -- the fields as they are written
 written : (B : Base) (J : List Event) (C : Counts) (x : Option State) (e : Event) (B1 : Base) (J1 : List Event) (C1 : Counts) (B' : Base) (J' : List Event) (C' : Counts) (N' : Present) (O' : List Out) (longest most room' : ℕ)
@@ -236,7 +237,7 @@ long_some false c n m s z long is = absurd (cc)
 long_some true false n m s z long is = absurd (cc)
 long_some true true n m s z long is = (is_le n m long, same_state s z is)
 
-pub goes : (B : Base) (J : List Event) (C : Counts) (N : Present) (O : List Out) (longest most room : ℕ) (x : Option State) (e : Event)
+goes : (B : Base) (J : List Event) (C : Counts) (N : Present) (O : List Out) (longest most room : ℕ) (x : Option State) (e : Event)
     (B' : Base) (J' : List Event) (C' : Counts) (N' : Present) (O' : List Out) (room' : ℕ)
     → IsKept B J C N O longest most room
     → x ≡ fresh_for (seen B J O longest most []) e
@@ -260,7 +261,7 @@ goes B J C N O longest most room (Some z) e B' J' C' N' O' room' kept is_x stepp
     (written B J C (Some s) e (base s) (e ∷ []) (count_one C e) B' J' C' N' O' longest most room' (is_b ∙ ap base f.1) is_j is_c
     (anew B J C N O longest most room e N' O' room' kept f.0 stepped used reserved))
 
-pub enters : (B : Base) (J : List Event) (C : Counts) (N : Present) (O : List Out) (longest most room : ℕ) (x : Option State) (e : Event)
+enters : (B : Base) (J : List Event) (C : Counts) (N : Present) (O : List Out) (longest most room : ℕ) (x : Option State) (e : Event)
     (B' : Base) (J' : List Event) (C' : Counts) (N' : Present) (O' : List Out) (room' : ℕ) (D D' : List Event)
     → IsKept B J C N O longest most room
     → x ≡ fresh_for (seen B J O longest most []) e
@@ -280,11 +281,72 @@ enters B J C N O longest most room x e B' J' C' N' O' room' D D' kept is_x g lef
 }
 
 -- what is left of the journal that ended last, by what there was before room was made
-pub left_by : (x : Option State) (J J1 D D1 D' : List Event) → J1 ≡ J → D1 ≡ D → IsEndedBy x J1 D1 D' → IsEndedBy x J D D'
+left_by : (x : Option State) (J J1 D D1 D' : List Event) → J1 ≡ J → D1 ≡ D → IsEndedBy x J1 D1 D' → IsEndedBy x J D D'
 left_by x J J1 D D1 D' same_j same_d left =
     let P : List Event → Type 0 = λ js. IsEndedBy x js D D' in
     let Q : List Event → Type 0 = λ ds. IsEndedBy x J1 ds D' in
     subst P same_j (subst Q same_d left)
+
+-- what a desk holds is what the state has that contracts see
+pub stands : (h : History) (N : Present) (O : List Out) (longest most : ℕ) (d : Seen)
+    → IsKept h.base h.events.items h.counts N O longest most h.events.room
+    → seen h.base h.events.items O longest most h.events.ended ≡ d
+    → Holds (state_of d) N O
+stands h N O longest most d kept view =
+    let H : Seen → Type 0 = λ x. Holds (state_of x) N O in
+    let held : Holds (replay_from h.base.state h.events.items) N O = record {
+      documents_are = kept.documents_are;
+      waiting_are = kept.waiting_are;
+      version_is = kept.version_is;
+      ticket_is = kept.ticket_is;
+      outs = kept.outs;
+    } in
+    subst H view held
+
+-- no more is used than may be
+pub few_of : (h : History) (N : Present) (O : List Out) (longest most : ℕ) (d : Seen)
+    → IsKept h.base h.events.items h.counts N O longest most h.events.room
+    → seen h.base h.events.items O longest most h.events.ended ≡ d
+    → used d ≤ d.max_events
+few_of h N O longest most d kept view =
+    let U : Seen → Type 0 = λ x. used x ≤ x.max_events in
+    let counts = ap total kept.counts_are in
+    let used = kept.used in
+    subst U view (omega arith)
+
+-- a desk has entered an event: its invariant holds, and contracts see the event
+pub record Entered (d : Seen) (e : Event) (h : History) (N : Present) (O : List Out) (longest most : ℕ) : Type 0 where
+  pub kept : IsKept h.base h.events.items h.counts N O longest most h.events.room
+  pub enters : Enters d (seen h.base h.events.items O longest most h.events.ended) e
+
+-- The event was written into a journal in which room had been made.
+pub entered : (h : History) (N : Present) (O : List Out) (longest most : ℕ) (d : Seen) (x : Option State) (e w : Event) (j : Held) (h' : History)
+    (N' : Present) (O' : List Out)
+    → IsKept h.base h.events.items h.counts N O longest most h.events.room
+    → seen h.base h.events.items O longest most h.events.ended ≡ d
+    → x ≡ fresh_for d e
+    → Stepped (state_of d) e N N' O'
+    → j.items ≡ h.events.items → j.ended ≡ h.events.ended
+    → Writes x (record { base = h.base; events = j; counts = h.counts }) h' w
+    → w ≡ e
+    → used d + 1 + length O' ≤ d.max_events + length O
+    → length (journal_after x j.items) + length O' + 1 ≤ room_after x j
+    → Entered d e h' N' O' longest most
+entered h N O longest most d x e w j h' N' O' kept view is_x stepped same_j same_d writes is_w few room =
+    let F : Seen → Type 0 = λ s. x ≡ fresh_for s e in
+    let S : Seen → Type 0 = λ s. Stepped (state_of s) e N N' O' in
+    let U : Seen → Type 0 = λ s. used s + 1 + length O' ≤ s.max_events + length O in
+    let E : Seen → Type 0 = λ s. Enters s (seen h'.base h'.events.items O' longest most h'.events.ended) e in
+    let is : x ≡ fresh_for (seen h.base h.events.items O longest most []) e = subst F (sym view) is_x in
+    let u = subst U (sym view) few in
+    let counts = ap total kept.counts_are in
+    let long = ap (λ (es : List Event). length (journal_after x es)) same_j in
+    let capacity = writes.capacity in
+    let went = goes h.base h.events.items h.counts N O longest most h.events.room x e h'.base h'.events.items h'.counts N' O' h'.events.room kept is
+    (subst S (sym view) stepped) writes.base (writes.events ∙ (λ i. journal_after x (same_j i) ++ is_w i ∷ [])) (writes.counts ∙ ap (count_one h.counts) is_w)
+    (omega arith) (omega arith) in
+    let left = left_by x h.events.items j.items h.events.ended j.ended h'.events.ended same_j same_d writes.ended in
+    record { kept = went.kept; enters = subst E view (enters _ _ _ _ _ _ _ h.events.room x e _ _ _ _ _ _ _ _ kept is went left) }
 
 -- nothing has changed, but there is room
 pub kept_room : (B : Base) (J : List Event) (C : Counts) (N : Present) (O : List Out) (longest most room : ℕ)

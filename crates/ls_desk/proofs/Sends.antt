@@ -17,8 +17,9 @@ use Rattle.ls_machine.specs.declared.base.Counts.{Counts}
 use Rattle.ls_machine.specs.declared.state.State.{State}
 use Rattle.ls_machine.specs.Counts.{first, no_events, total}
 use Rattle.ls_machine.specs.Journal.{replay_from, IsLegalFrom, IsPast}
-use Rattle.ls_desk.specs.Stands.{Enters, IsOutFor, AreOutsFor, Seen, Sends, StandsAt, Answers, out_of, ticket_of_out}
+use Rattle.ls_desk.specs.Stands.{Enters, IsOutFor, AreOutsFor, Seen, Sends, StandsAt, Answers, out_of, state_of, ticket_of_out}
 use Rattle.ls_desk.specs.declared.present.Present.{Present}
+use Rattle.ls_desk.specs.declared.history.History.{History}
 use Rattle.ls_desk.specs.own.Kept.{IsKept}
 use Rattle.ls_machine.specs.Laws.{WasEntryCurrent, WereEntriesCurrent}
 use Rattle.ls_desk.proofs.Grows.{Stepped, Holds, seen}
@@ -89,19 +90,34 @@ current_in B J most past is legal =
     let P : State → Type 0 = λ s. WereEntriesCurrent (past ++ J) s.unsent in
     subst P (past_state most B past J is) (ordered most (past ++ J) (past_legal most B past J is legal)).unsent
 
-pub sends : (B : Base) (J : List Event) (C : Counts) (N : Present) (O : List Out) (longest most room : ℕ) (D : List Event) (new : Seen) (o : Out) (os : List Out)
+sends_from : (B : Base) (J : List Event) (C : Counts) (N : Present) (O : List Out) (longest most room : ℕ) (D : List Event) (new : Seen) (o : Out) (os : List Out)
     → IsKept B J C N O longest most room
     → Front (replay_from B.state J).unsent o os
     → O ≡ o ∷ os
     → new.outbox ≡ os
     → Enters (seen B J O longest most D) new (Sent (ticket_of_out o))
     → Sends (seen B J O longest most D) new o
-sends B J C N O longest most room D new o os kept f is same went = record {
+sends_from B J C N O longest most room D new o os kept f is same went = record {
   enters = went;
   first = is ∙ ap (λ (xs : List Out). o ∷ xs) (sym same);
   stands_for = (f.entry, f.others, f.is, f.for);
   was_current = (kept.past.0, kept.past.1, first_current (kept.past.0 ++ J) (replay_from B.state J).unsent f.entry f.others (current_in B J most kept.past.0 kept.past.1 kept.legal) f.is);
 }
+
+pub sends : (h : History) (N : Present) (O : List Out) (longest most : ℕ) (d new : Seen) (o : Out) (os : List Out)
+    → IsKept h.base h.events.items h.counts N O longest most h.events.room
+    → seen h.base h.events.items O longest most h.events.ended ≡ d
+    → Front (state_of d).unsent o os
+    → O ≡ o ∷ os
+    → new.outbox ≡ os
+    → Enters d new (Sent (ticket_of_out o))
+    → Sends d new o
+sends h N O longest most d new o os kept view f is same went =
+    let F : Seen → Type 0 = λ s. Front (state_of s).unsent o os in
+    let E : Seen → Type 0 = λ s. Enters s new (Sent (ticket_of_out o)) in
+    let P : Seen → Type 0 = λ s. Sends s new o in
+    let back = sym view in
+    subst P view (sends_from _ _ _ _ _ _ _ h.events.room _ new o os kept (subst F back f) is same (subst E back went))
 
 -- ---- the unsent entries by their numbers
 

@@ -11,13 +11,12 @@ ghost use Rattle.std.specs.Option.{option_map};
 ghost use Rattle.std.specs.Str.{chars};
 ghost use Rattle.ls_text.specs.Edits.{is_too_large};
 ghost use Rattle.ls_text.specs.Lines.{max_bytes};
-ghost use Rattle.ls_machine.specs.Machine.{is_open, document_of, edited_at, measured, is_held, is_queued, left_at, asked, asks_with, requests, id_waits, told_if_found, request_cancelled, waits};
+ghost use Rattle.ls_machine.specs.Machine.{is_open, document_of, is_held, is_queued, left_at, asked, asks_with, requests, id_waits, told_if_found, request_cancelled, waits};
 ghost use Rattle.ls_machine.specs.Counts.{first, no_events};
 ghost use Rattle.ls_machine.specs.Same.{is_for};
 ghost use Rattle.ls_desk.specs.Stands.{Enters, Sends, IsSound, StandsAt, counts_of, failures, fresh, state_of, used};
 ghost use Rattle.ls_desk.specs.Faults.{Accepts, open_fault, open_shared_fault, sized_open_fault, Refuses, end_fault, is_full, finish_fault, request_fault, take_fault, give_back_fault, cancel_fault, full_fault, kept_of, IsFirstCause, IsJobOf, Takes};
 ghost use Rattle.ls_desk.specs.Door.{text_closed_by};
-ghost use Rattle.ls_desk.specs.own.Puts.{next_of};
 
 use crate::history::History;
 use crate::job::{asked, has_failed, job_of, kept_for};
@@ -26,14 +25,14 @@ use crate::outs::{
 };
 use crate::present::Present;
 use crate::room::{
-    put_change, put_replies, room_for_event, room_for_job, room_for_replies, room_for_text,
+    put_replies, room_for_event, room_for_job, room_for_next, room_for_replies, room_for_text,
 };
-use crate::texts::{Next, snapshot_of_text};
+use crate::texts::snapshot_of_text;
 use ls_answers::{Ask, Done, Job};
 use ls_lists::{List, Text};
 use ls_machine::{
-    Boxed, ClientEvent, Counts, DeskFault, Event, Kept, Out, SharedSnapshot, State, Waiting, find,
-    state_of,
+    Boxed, ClientEvent, Counts, DeskFault, Document, Event, Kept, Out, SharedSnapshot, State,
+    Waiting, find, state_of,
 };
 use ls_rpc::Id;
 use ls_text::{Edit, Encoding, MAX_BYTES};
@@ -46,6 +45,12 @@ const MOST_DOCUMENTS: usize = 256;
 
 /// The most requests that wait at once.
 const MOST_REQUESTS: usize = 1_024;
+
+/// The most events that a desk's journal may have where a client's event comes to it.
+pub const MOST_JOURNAL: usize = 1_000_000;
+
+/// The most events and unsent replies of a session, together.
+pub const MOST_EVENTS: u64 = 18_446_744_073_709_551_614;
 
 /// The open documents, the waiting jobs, the unsent replies and the journal of a session.
 ///
@@ -185,30 +190,24 @@ impl Desk {
         Ok(Some(state))
     }
 
-    /// What is answered where a document's text ends, or the refusal that comes first.
+    /// The document whose text ends, and what is answered then, or the refusal that comes first.
     #[tactic(auto, using(crate::proofs::Rules::desk_rules))]
-    fn ends(&self, uri: &Text) -> Result<VecDeque<Out>, DeskFault>
-        ensures replies { IfOk result (λ replies. replies.items ≡ failures uri.now (state_of self.now).waiting) }
+    fn ends(&self, uri: &Text) -> Result<(&Document, VecDeque<Out>), DeskFault>
+        ensures document { IfOk result (λ found. document_of uri.now (state_of self.now).documents ≡ Some found.0.now) }
+        ensures replies { IfOk result (λ found. found.1.items ≡ failures uri.now (state_of self.now).waiting) }
         ensures none { OnOk result (end_fault self.now uri.now ≡ None) }
-        ensures open { OnOk result (is_open uri.now (state_of self.now).documents ≡ true) }
-        ensures room { IfOk result (λ replies. used self.now + (1 + length replies.items) ≤ self.now.max_events) }
+        ensures room { IfOk result (λ found. used self.now + (1 + length found.1.items) ≤ self.now.max_events) }
         ensures err { IfErr result (λ fault. IsFirstCause (end_fault self.now uri.now) fault) }
     {
-        if find::document_of(self.present.documents.as_slice(), uri).is_none() {
+        let documents = self.present.documents.as_slice();
+        let Some(document) = find::document_of(documents, uri) else {
             return Err(DeskFault::NotOpen);
-        }
+        };
         if self.is_full(replies_at_end(uri, self.present.waiting.as_slice())) {
             return Err(DeskFault::SessionFull);
         }
-        Ok(failures(self.alloc, uri, self.present.waiting.as_slice())?)
-    }
-
-    /// The text of a document after edits.
-    fn changed(&self, uri: &Text, label: i64, edits: &[Edit]) -> Result<Option<Next>, DeskFault>
-        ensures next { IfOk result (λ next. next ≡ next_of (state_of self.now).next_version (state_of self.now).next_ticket uri.now label (edited_at (document_of uri.now (state_of self.now).documents) edits.now)) }
-        ensures err { IfErr result (λ fault. fault ≡ DeskFault.Memory) }
-    {
-        Ok(self.present.changed_text(self.alloc, uri, label, edits)?)
+        let replies = failures(self.alloc, uri, self.present.waiting.as_slice())?;
+        Ok((document, replies))
     }
 
     /// Changes a document by edits, each on the text that the ones before it left, and gives the version of the new text. That has a job
@@ -228,18 +227,14 @@ impl Desk {
         ensures ok { IfOk result (λ version. Accepts (end_fault self.old uri) self.old self.new (Event.Changed uri label edits version)) }
         ensures err { IfErr result (λ fault. Refuses (end_fault self.old uri) self.old self.new fault) }
     {
-        let replies = self.ends(&uri)?;
-        let next = self.changed(&uri, label, edits.as_slice())?;
+        let (document, replies) = self.ends(&uri)?;
+        let next = self
+            .present
+            .changed_text(self.alloc, &uri, label, document, edits.as_slice())?;
         let edits = Boxed::new(self.alloc, edits)?;
         let state = self.fresh()?;
-        put_change(
-            &mut self.present.waiting,
-            &mut self.history.events,
-            &state,
-            &mut self.outbox,
-            replies,
-            &next,
-        )?;
+        room_for_next(&mut self.present.waiting, &next)?;
+        put_replies(&mut self.history.events, &state, &mut self.outbox, replies)?;
         let version = self.present.change(&uri, next);
         self.history.enter(
             state,
@@ -264,7 +259,7 @@ impl Desk {
         ensures ok { OnOk result (Accepts (end_fault self.old uri) self.old self.new (Event.Closed uri)) }
         ensures err { IfErr result (λ fault. Refuses (end_fault self.old uri) self.old self.new fault) }
     {
-        let replies = self.ends(&uri)?;
+        let (_, replies) = self.ends(&uri)?;
         let state = self.fresh()?;
         put_replies(&mut self.history.events, &state, &mut self.outbox, replies)?;
         self.present.close(&uri);

@@ -28,7 +28,7 @@ mod present;
 mod room;
 mod texts;
 
-pub use desk::Desk;
+pub use desk::{Desk, MOST_EVENTS, MOST_JOURNAL};
 pub use journal::give_room_back;
 pub use ls_machine::{
     Boxed, Counts, DeskFault, Document, Entry, Event, Kept, Out, Request, SharedSnapshot, State,

@@ -1,13 +1,13 @@
 //! What the journal has led to, but for the replies.
 ghost use Rattle.std.specs.Prelude.{◌≡◌, ◌+◌, ◌<◌, ◌≤◌, ◌^◌, ◌++◌, ◌∷◌, [], Bool, IfOk, Some, true, false, length, find, position, vec_len, vec_capacity};
 ghost use Rattle.ls_machine.specs.declared.state.Waiting.{Waiting};
-ghost use Rattle.ls_machine.specs.Machine.{is_open, going_on, others, without_first_job, on_first, with_taken, document_of, edited_at, measured, version_if};
+ghost use Rattle.ls_machine.specs.Machine.{is_open, going_on, others, without_first_job, on_first, with_taken, edited_at, measured, version_if};
 ghost use Rattle.ls_desk.specs.own.Puts.{next_of, documents_of, jobs_of, count_of};
 
 use crate::texts::Next;
 use ls_answers::Ask;
 use ls_lists::Text;
-use ls_machine::find::{document_of, is_ended};
+use ls_machine::find::is_ended;
 use ls_machine::{Document, SharedSnapshot, Waiting};
 use ls_text::{Edit, Encoding, TextFault};
 use std::alloc::{AllocError, Global};
@@ -102,13 +102,11 @@ impl Present {
         alloc: Global,
         uri: &Text,
         label: i64,
+        document: &Document,
         edits: &[Edit],
     ) -> Result<Option<Next>, AllocError>
-        ensures { IfOk result (λ next. next ≡ next_of self.now.next_version self.now.next_ticket uri.now label (edited_at (document_of uri.now self.now.documents.items) edits.now)) }
+        ensures { IfOk result (λ next. next ≡ next_of self.now.next_version self.now.next_ticket uri.now label (edited_at (Some document.now) edits.now)) }
     {
-        let Some(document) = document_of(self.documents.as_slice(), uri) else {
-            return Ok(None);
-        };
         match document.text.get().apply(edits, document.encoding) {
             Ok(snapshot) => {
                 let text = SharedSnapshot::new(alloc, snapshot)?;

@@ -4,7 +4,7 @@ use Rattle.std.specs.declared.alloc.Global.{Global}
 use Rattle.std.proofs.lemmas.List.{append-nil, take-append-drop, map-append}
 use Rattle.ls_frame.specs.Feeds.{contents_of}
 use Rattle.ls_session.specs.declared.turn.Status.{Status}
-use Rattle.ls_devices.specs.Reading.{BreaksIn, HearsAll, HearsFront, HearsOn}
+use Rattle.ls_devices.specs.Reading.{BreaksIn, HearsAll, HearsPrefix, HearsOn}
 use Rattle.ls_devices.proofs.Pieces.{take_next}
 
 -- the messages before one, it, and those behind it
@@ -37,16 +37,16 @@ module _ {L : Type 0} (Hears : List ℕ → L → Option Status → L → Type 0
   hears_last bodies i body text a b c status l at e h one = (contents_of (take i bodies), text, contents_of (drop (i + 1) bodies), b, (parts_at bodies i body text l at e, h, one))
 
 module _ {L F : Type 0} (Hears : List ℕ → L → Option Status → L → Type 0) (Breaks : List ℕ → L → F → L → Type 0) (Lacks : F → Type 0) (fault : F) where
-  pub front_append : (xs ys : List (List ℕ)) (a b c : L) → HearsOn Hears xs a b → HearsFront Hears Breaks Lacks fault ys b c → HearsFront Hears Breaks Lacks fault (xs ++ ys) a c
-  front_append xs ys a b c h k = (xs ++ k.0, k.1, k.2, (ap (λ l. xs ++ l) k.3.0 ∙ sym (append_assoc xs k.0 k.1), on_append Hears xs k.0 a b k.2 h k.3.1, k.3.2))
+  pub prefix_append : (xs ys : List (List ℕ)) (a b c : L) → HearsOn Hears xs a b → HearsPrefix Hears Breaks Lacks fault ys b c → HearsPrefix Hears Breaks Lacks fault (xs ++ ys) a c
+  prefix_append xs ys a b c h k = (xs ++ k.0, k.1, k.2, (ap (λ l. xs ++ l) k.3.0 ∙ sym (append_assoc xs k.0 k.1), on_append Hears xs k.0 a b k.2 h k.3.1, k.3.2))
 
   -- within the next of some messages it breaks off
   pub hears_part : (bodies : List (Vec ℕ Global)) (i : ℕ) (body : Vec ℕ Global) (text : List ℕ) (a b c : L) → i < length bodies → body ≡ get_or bodies i body → text ≡ body.items
-      → HearsOn Hears (contents_of (take i bodies)) a b → Breaks text b fault c → HearsFront Hears Breaks Lacks fault (contents_of bodies) a c
+      → HearsOn Hears (contents_of (take i bodies)) a b → Breaks text b fault c → HearsPrefix Hears Breaks Lacks fault (contents_of bodies) a c
   hears_part bodies i body text a b c l at e h part = (contents_of (take i bodies), text ∷ contents_of (drop (i + 1) bodies), b, (parts_at bodies i body text l at e, h, part))
 
   -- all are heard, and an allocation is refused
-  pub all_heard : (bodies : List (List ℕ)) (a b : L) → Lacks fault → HearsOn Hears bodies a b → HearsFront Hears Breaks Lacks fault bodies a b
+  pub all_heard : (bodies : List (List ℕ)) (a b : L) → Lacks fault → HearsOn Hears bodies a b → HearsPrefix Hears Breaks Lacks fault bodies a b
   all_heard bodies a b lacks h = (bodies, [], b, (sym (append-nil bodies), h, (lacks, refl)))
 
 -- ---- what shows of it
@@ -62,10 +62,10 @@ module _ {L K : Type 0} (Hears : List ℕ → L → Option Status → L → Type
   all_shows bodies a b None h = on_shows bodies a b h
   all_shows bodies a b (Some status) h = (h.0, h.1, h.2, f h.3, (h.4.0, on_shows h.0 a h.3 h.4.1, one h.1 h.3 b (Some status) h.4.2))
 
-  pub front_shows : {F : Type 0} (Breaks : List ℕ → L → F → L → Type 0) (Stops : List ℕ → K → F → K → Type 0) (Lacks Short : F → Type 0) (fault : F)
+  pub prefix_shows : {F : Type 0} (Breaks : List ℕ → L → F → L → Type 0) (Stops : List ℕ → K → F → K → Type 0) (Lacks Short : F → Type 0) (fault : F)
       → ((body : List ℕ) (a b : L) → Breaks body a fault b → Stops body (f a) fault (f b)) → (Lacks fault → Short fault) → (bodies : List (List ℕ)) (a b : L)
-      → HearsFront Hears Breaks Lacks fault bodies a b → HearsFront Shows Stops Short fault bodies (f a) (f b)
-  front_shows Breaks Stops Lacks Short fault part none bodies a b h = (h.0, h.1, f h.2, (h.3.0, on_shows h.0 a h.2 h.3.1, breaks h.1 h.2 b h.3.2))
+      → HearsPrefix Hears Breaks Lacks fault bodies a b → HearsPrefix Shows Stops Short fault bodies (f a) (f b)
+  prefix_shows Breaks Stops Lacks Short fault part none bodies a b h = (h.0, h.1, f h.2, (h.3.0, on_shows h.0 a h.2 h.3.1, breaks h.1 h.2 b h.3.2))
     where
       breaks : (bodies : List (List ℕ)) (a b : L) → BreaksIn Breaks Lacks fault bodies a b → BreaksIn Stops Short fault bodies (f a) (f b)
       breaks [] a b h = (none h.0, ap f h.1)
@@ -83,9 +83,9 @@ module _ {L N : Type 0} (Hears : List ℕ → L → Option Status → L → Type
   all_keeps bodies a b None h = on_keeps bodies a b h
   all_keeps bodies a b (Some status) h = one h.1 h.3 b (Some status) h.4.2 ∙ on_keeps h.0 a h.3 h.4.1
 
-  pub front_keeps : {F : Type 0} (Breaks : List ℕ → L → F → L → Type 0) (Lacks : F → Type 0) (fault : F) → ((body : List ℕ) (a b : L) → Breaks body a fault b → f b ≡ f a) → (bodies : List (List ℕ)) (a b : L)
-      → HearsFront Hears Breaks Lacks fault bodies a b → f b ≡ f a
-  front_keeps Breaks Lacks fault part bodies a b h = breaks h.1 h.2 b h.3.2 ∙ on_keeps h.0 a h.2 h.3.1
+  pub prefix_keeps : {F : Type 0} (Breaks : List ℕ → L → F → L → Type 0) (Lacks : F → Type 0) (fault : F) → ((body : List ℕ) (a b : L) → Breaks body a fault b → f b ≡ f a) → (bodies : List (List ℕ)) (a b : L)
+      → HearsPrefix Hears Breaks Lacks fault bodies a b → f b ≡ f a
+  prefix_keeps Breaks Lacks fault part bodies a b h = breaks h.1 h.2 b h.3.2 ∙ on_keeps h.0 a h.2 h.3.1
     where
       breaks : (bodies : List (List ℕ)) (a b : L) → BreaksIn Breaks Lacks fault bodies a b → f b ≡ f a
       breaks [] a b h = ap f h.1

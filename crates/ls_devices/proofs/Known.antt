@@ -2,7 +2,7 @@
 use Rattle.std.proofs.Common.{◌≡◌, ◌||◌, Bool, true, false, ℕ, List, [], ◌++◌, Option, None, Some, sym, ◌∙◌, ap, append_assoc}
 use Rattle.std.proofs.lemmas.List.{append-nil}
 use Rattle.std.specs.Io.KnownBytes.{Appends, Keeps}
-use Rattle.ls_devices.specs.Devices.{AppendsFront}
+use Rattle.ls_devices.specs.Devices.{AppendsPrefix}
 
 pub appends_keeps : (a b c : Option (List ℕ)) (x : List ℕ) → Appends a b x → Keeps b c → Appends a c x
 appends_keeps None b c x p q = tt
@@ -20,11 +20,11 @@ pub appends_none : (a : Option (List ℕ)) → Appends a a []
 appends_none None = tt
 appends_none (Some xs) = sym (append-nil xs)
 
-pub front_keeps : (a b c : Option (List ℕ)) (x : List ℕ) → AppendsFront a b x → Keeps b c → AppendsFront a c x
-front_keeps a b c x f k = (f.0, f.1, (f.2.0, appends_keeps a b c f.0 f.2.1 k))
+pub prefix_keeps : (a b c : Option (List ℕ)) (x : List ℕ) → AppendsPrefix a b x → Keeps b c → AppendsPrefix a c x
+prefix_keeps a b c x f k = (f.0, f.1, (f.2.0, appends_keeps a b c f.0 f.2.1 k))
 
-pub as_front : (a b : Option (List ℕ)) (bytes : List ℕ) → Appends a b bytes → AppendsFront a b bytes
-as_front a b bytes w = (bytes, [], (sym (append-nil bytes), w))
+pub as_prefix : (a b : Option (List ℕ)) (bytes : List ℕ) → Appends a b bytes → AppendsPrefix a b bytes
+as_prefix a b bytes w = (bytes, [], (sym (append-nil bytes), w))
 
 pub or_true : (a b : Bool) → a ≡ (b || true) → a ≡ true
 or_true a true e = e

@@ -3,3 +3,4 @@ pub mod Input
 pub mod Known
 pub mod Listening
 pub mod Pieces
+pub mod Whole

@@ -12,10 +12,11 @@ use Rattle.ls_session.specs.declared.turn.Status.{Status}
 use Rattle.ls_session.specs.declared.turn.Status.TheVariants.{BadFrame}
 use Rattle.ls_devices.specs.Ends.{end_status}
 use Rattle.ls_devices.specs.Input.{ComesMore, ComesToEnd}
-use Rattle.ls_devices.specs.Reading.{HearsAll, HearsFront, HearsInput, HearsOn, HearsPiece, InputIs, IsEndOfPiece}
+use Rattle.ls_devices.specs.Reading.{HearsAll, HearsPrefix, HearsInput, HearsOn, InputIs}
+use Rattle.ls_devices.specs.own.Pieces.{HearsPiece, IsEndOfPiece}
 use Rattle.ls_devices.specs.declared.reading.ReaderEnd.{ReaderEnd}
 use Rattle.ls_devices.specs.declared.reading.ReaderEnd.TheVariants.{Broken, Ended, Failed}
-use Rattle.ls_devices.proofs.Hearing.{all_append, all_heard, all_keeps, all_shows, front_append, front_keeps, front_shows, on_append, on_keeps, on_shows}
+use Rattle.ls_devices.proofs.Hearing.{all_append, all_heard, all_keeps, all_shows, prefix_append, prefix_keeps, prefix_shows, on_append, on_keeps, on_shows}
 use Rattle.ls_devices.proofs.Input.{consumes_consumes, consumes_none, no_stream}
 use Rattle.ls_devices.proofs.Pieces.{Fed, breaks_before, breaks_more, breaks_off, ends_more, fed_is, fed_stream, goes_more}
 
@@ -57,7 +58,7 @@ module _ {L F : Type 0} (Hears : List ℕ → L → Option Status → L → Type
   end_of old piece new after a b (Err Truncated) r is p f h = is_faulty old piece new after a b r Truncated is f h
   end_of old piece new after a b (Err Memory) r is p f h =
       subst (λ o. HearsPiece Hears Breaks Lacks old piece a o new b) (sym is.1)
-      (breaks_before (λ bodies. HearsFront Hears Breaks Lacks is.0 bodies a b) old piece after p f (all_heard Hears Breaks Lacks is.0 after a b is.2 h))
+      (breaks_before (λ bodies. HearsPrefix Hears Breaks Lacks is.0 bodies a b) old piece after p f (all_heard Hears Breaks Lacks is.0 after a b is.2 h))
 
   -- all messages of a piece were heard
   pub piece_heard : (old piece new : List ℕ) (before after given : List (List ℕ)) (a b : L) (fed : Result ℕ FrameFault) (r : Result (Option Status) F) → HasNoFrame old → fault_of old ≡ None
@@ -74,10 +75,10 @@ module _ {L F : Type 0} (Hears : List ℕ → L → Option Status → L → Type
 
   -- it broke off within the messages of a piece
   pub piece_breaks : (old piece new : List ℕ) (before after given : List (List ℕ)) (a b : L) (fed : Result ℕ FrameFault) (fault : F) → HasNoFrame old → fault_of old ≡ None
-      → FeedIs old piece before fed new after → before ≡ [] → given ≡ after → HearsFront Hears Breaks Lacks fault given a b → HearsPiece Hears Breaks Lacks old piece a (Err fault) new b
+      → FeedIs old piece before fed new after → before ≡ [] → given ≡ after → HearsPrefix Hears Breaks Lacks fault given a b → HearsPiece Hears Breaks Lacks old piece a (Err fault) new b
   piece_breaks old piece new before after given a b fed fault p e f none same h =
-      breaks_off (λ bodies. HearsFront Hears Breaks Lacks fault bodies a b) old piece new after p
-      (fed_stream old piece new after fed (fed_is old piece new after fed e (subst (λ l. FeedIs old piece l fed new after) none f))) (subst (λ l. HearsFront Hears Breaks Lacks fault l a b) same h)
+      breaks_off (λ bodies. HearsPrefix Hears Breaks Lacks fault bodies a b) old piece new after p
+      (fed_stream old piece new after fed (fed_is old piece new after fed e (subst (λ l. FeedIs old piece l fed new after) none f))) (subst (λ l. HearsPrefix Hears Breaks Lacks fault l a b) same h)
 
   -- ---- piece after piece
 
@@ -89,8 +90,8 @@ module _ {L F : Type 0} (Hears : List ℕ → L → Option Status → L → Type
   piece_more read rest piece last a b c (Ok (Some status)) g p =
       ends_more (λ xs. HearsOn Hears xs a b) (λ xs exit. HearsAll Hears xs b exit c) (λ xs exit. HearsAll Hears xs a exit c) read rest piece status g p (λ xs ys exit. all_append Hears xs ys a b c exit)
   piece_more read rest piece last a b c (Err fault) g p =
-      breaks_more (λ xs. HearsOn Hears xs a b) (λ xs. HearsFront Hears Breaks Lacks fault xs b c) (λ xs. HearsFront Hears Breaks Lacks fault xs a c) read rest piece g p
-      (λ xs ys. front_append Hears Breaks Lacks fault xs ys a b c)
+      breaks_more (λ xs. HearsOn Hears xs a b) (λ xs. HearsPrefix Hears Breaks Lacks fault xs b c) (λ xs. HearsPrefix Hears Breaks Lacks fault xs a c) read rest piece g p
+      (λ xs ys. prefix_append Hears Breaks Lacks fault xs ys a b c)
 
   -- no memory was left to read anything
   pub refused_at_once : (input : Option (List ℕ)) (a : L) (fault : F) → Lacks fault → HearsInput Hears Breaks Lacks input input a (Broken fault) a
@@ -136,13 +137,13 @@ end_shows All Every read status all g =
     record { contents = g.contents; last = g.last; exit = g.exit; stream = g.stream; status_is = g.status_is; made = all g.contents g.exit g.made }
 
 -- More is known of the input where more is known of what is made of its messages.
-pub input_shows : {F : Type 0} (On More : List (List ℕ) → Type 0) (All Every : List (List ℕ) → Option Status → Type 0) (Front Part : F → List (List ℕ) → Type 0) (input left : Option (List ℕ)) (end : ReaderEnd F)
+pub input_shows : {F : Type 0} (On More : List (List ℕ) → Type 0) (All Every : List (List ℕ) → Option Status → Type 0) (Prefix Part : F → List (List ℕ) → Type 0) (input left : Option (List ℕ)) (end : ReaderEnd F)
     → ((bodies : List (List ℕ)) → On bodies → More bodies) → ((bodies : List (List ℕ)) (exit : Option Status) → All bodies exit → Every bodies exit)
-    → ((fault : F) (bodies : List (List ℕ)) → end ≡ Broken fault → Front fault bodies → Part fault bodies) → InputIs On All Front input left end → InputIs More Every Part input left end
-input_shows On More All Every Front Part input left (Ended status) on all front (read, consumes, inl g) = (read, consumes, inl (end_shows All Every read status all g))
-input_shows On More All Every Front Part input left (Ended status) on all front (read, consumes, inr g) = (read, consumes, inr (g.0, (g.1.0, more_shows On More read g.1.0 on g.1.1, g.1.2)))
-input_shows On More All Every Front Part input left Failed on all front h = (h.0, h.1, h.2, more_shows On More h.0 h.1 on h.3)
-input_shows On More All Every Front Part input left (Broken fault) on all front h = (
+    → ((fault : F) (bodies : List (List ℕ)) → end ≡ Broken fault → Prefix fault bodies → Part fault bodies) → InputIs On All Prefix input left end → InputIs More Every Part input left end
+input_shows On More All Every Prefix Part input left (Ended status) on all prefix (read, consumes, inl g) = (read, consumes, inl (end_shows All Every read status all g))
+input_shows On More All Every Prefix Part input left (Ended status) on all prefix (read, consumes, inr g) = (read, consumes, inr (g.0, (g.1.0, more_shows On More read g.1.0 on g.1.1, g.1.2)))
+input_shows On More All Every Prefix Part input left Failed on all prefix h = (h.0, h.1, h.2, more_shows On More h.0 h.1 on h.3)
+input_shows On More All Every Prefix Part input left (Broken fault) on all prefix h = (
   h.0,
   h.1,
   record {
@@ -152,18 +153,18 @@ input_shows On More All Every Front Part input left (Broken fault) on all front 
     contents = h.2.contents;
     last = h.2.last;
     stream = h.2.stream;
-    made = front fault h.2.contents refl h.2.made;
+    made = prefix fault h.2.contents refl h.2.made;
   },
 )
 
 keeps : {L F N : Type 0} (Hears : List ℕ → L → Option Status → L → Type 0) (Breaks : List ℕ → L → F → L → Type 0) (Lacks : F → Type 0) (f : L → N)
     → ((body : List ℕ) (a b : L) (exit : Option Status) → Hears body a exit b → f b ≡ f a) → ((body : List ℕ) (a b : L) (fault : F) → Breaks body a fault b → f b ≡ f a)
     → (input left : Option (List ℕ)) (a b : L) (end : ReaderEnd F)
-    → InputIs (λ bodies. HearsOn Hears bodies a b) (λ bodies exit. HearsAll Hears bodies a exit b) (λ fault bodies. HearsFront Hears Breaks Lacks fault bodies a b) input left end → f b ≡ f a
+    → InputIs (λ bodies. HearsOn Hears bodies a b) (λ bodies exit. HearsAll Hears bodies a exit b) (λ fault bodies. HearsPrefix Hears Breaks Lacks fault bodies a b) input left end → f b ≡ f a
 keeps Hears Breaks Lacks f one part input left a b (Ended status) (read, consumes, inl g) = all_keeps Hears f one g.contents a b g.exit g.made
 keeps Hears Breaks Lacks f one part input left a b (Ended status) (read, consumes, inr g) = on_keeps Hears f one g.1.1.contents a b g.1.1.made
 keeps Hears Breaks Lacks f one part input left a b Failed h = on_keeps Hears f one h.3.contents a b h.3.made
-keeps Hears Breaks Lacks f one part input left a b (Broken fault) h = front_keeps Hears f one Breaks Lacks fault (λ body x y p. part body x y fault p) h.2.contents a b h.2.made
+keeps Hears Breaks Lacks f one part input left a b (Broken fault) h = prefix_keeps Hears f one Breaks Lacks fault (λ body x y p. part body x y fault p) h.2.contents a b h.2.made
 
 -- What no message changes is as it was.
 pub input_keeps : {L F N : Type 0} {Hears : List ℕ → L → Option Status → L → Type 0} {Breaks : List ℕ → L → F → L → Type 0} {Lacks : F → Type 0} {input left : Option (List ℕ)} {a b : L} {end : ReaderEnd F}
@@ -178,9 +179,9 @@ pub input_seen : {L K F : Type 0} {Hears : List ℕ → L → Option Status → 
     → ((fault : F) → Lacks fault → Short fault) → HearsInput Shows Stops Short input left (f a) end (f b)
 input_seen {Hears = H} {Breaks = B} {Lacks = N} {input = input} {left = left} {a = a} {b = b} {end = end} h f Shows Stops Short one part none = record {
   heard = input_shows (λ bodies. HearsOn H bodies a b) (λ bodies. HearsOn Shows bodies (f a) (f b)) (λ bodies exit. HearsAll H bodies a exit b) (λ bodies exit. HearsAll Shows bodies (f a) exit (f b))
-      (λ fault bodies. HearsFront H B N fault bodies a b) (λ fault bodies. HearsFront Shows Stops Short fault bodies (f a) (f b)) input left end
+      (λ fault bodies. HearsPrefix H B N fault bodies a b) (λ fault bodies. HearsPrefix Shows Stops Short fault bodies (f a) (f b)) input left end
       (λ bodies x. on_shows H Shows f one bodies a b x) (λ bodies exit x. all_shows H Shows f one bodies a b exit x)
-      (λ fault bodies e x. front_shows H Shows f one B Stops N Short fault (λ body s t p. part body s t fault p) (none fault) bodies a b x) h.heard;
+      (λ fault bodies e x. prefix_shows H Shows f one B Stops N Short fault (λ body s t p. part body s t fault p) (none fault) bodies a b x) h.heard;
 }
 
 -- a source that was read as often as it may be

@@ -16,5 +16,5 @@ took_bytes (Ok n) = nat_lt 0 n
 took_bytes (Err fault) = false
 
 -- What was written grows by a prefix of these bytes, where it is known.
-abbrev pub AppendsFront : Option (List ℕ) → Option (List ℕ) → List ℕ → Type 0
-AppendsFront old new bytes = (part : List ℕ) × (more : List ℕ) × ((bytes ≡ part ++ more) × Appends old new part)
+abbrev pub AppendsPrefix : Option (List ℕ) → Option (List ℕ) → List ℕ → Type 0
+AppendsPrefix old new bytes = (part : List ℕ) × (more : List ℕ) × ((bytes ≡ part ++ more) × Appends old new part)

@@ -1,10 +1,11 @@
 //! What reads an input: it cuts what comes into frames, and a listener hears the message in each.
-ghost use Rattle.std.specs.Prelude.{◌≡◌, ◌<◌, ℕ, List, length, Option, None, IfErr, IfNone, IfOk, OnErr, OnOk, false, true};
+ghost use Rattle.std.specs.Prelude.{◌≡◌, ◌<◌, ℕ, List, length, Option, None, IfErr, IfNone, IfOk, false, true};
 ghost use Rattle.ls_frame.specs.Feeds.{contents_of};
 ghost use Rattle.ls_frame.specs.Faults.{fault_of};
 ghost use Rattle.ls_frame.specs.Frames.{HasNoFrame};
 ghost use Rattle.ls_devices.specs.Ends.{end_status, has_cause};
-ghost use Rattle.ls_devices.specs.Reading.{HearsAll, HearsFront, HearsInput, HearsPiece, IsEndOfPiece, IsRefusal};
+ghost use Rattle.ls_devices.specs.Reading.{HearsAll, HearsPrefix, HearsInput, IsRefusal};
+ghost use Rattle.ls_devices.specs.own.Pieces.{HearsPiece, IsEndOfPiece};
 ghost use Rattle.ls_session.specs.declared.turn.Status.{Status};
 
 use crate::device::{DeviceFault, Source};
@@ -76,13 +77,11 @@ fn hear_all<L: Listener>(listener: &mut L, bodies: &[Vec<u8>]) -> Result<Option<
     requires { L.is_ready listener.old }
     ensures ok { IfOk result (λ status. HearsAll L.hears (contents_of bodies.now) listener.old status listener.new) }
     ensures ready { IfOk result (λ status. IfNone status (L.is_ready listener.new)) }
-    ensures err { IfErr result (λ fault. HearsFront L.hears L.breaks (IsRefusal L.Fault.from_gives) fault (contents_of bodies.now) listener.old listener.new) }
+    ensures err { IfErr result (λ fault. HearsPrefix L.hears L.breaks (IsRefusal L.Fault.from_gives) fault (contents_of bodies.now) listener.old listener.new) }
 {
     for body in bodies {
-        match listener.hear(body) {
-            Ok(None) => {}
-            Ok(Some(status)) => return Ok(Some(status)),
-            Err(fault) => return Err(fault),
+        if let Some(status) = listener.hear(body)? {
+            return Ok(Some(status));
         }
     }
     Ok(None)
@@ -103,14 +102,14 @@ fn take_piece<L: Listener>(
 {
     let mut bodies = Vec::new(alloc);
     let fed = framer.feed(piece, &mut bodies);
-    match hear_all(listener, &bodies) {
-        Ok(None) => end_of_piece(fed),
-        Ok(Some(status)) => Ok(Some(status)),
-        Err(fault) => Err(fault),
+    match hear_all(listener, &bodies)? {
+        Some(status) => Ok(Some(status)),
+        None => end_of_piece(fed),
     }
 }
 
-/// Reads and hears by this buffer. The loop stands apart from where its buffer is made for the prover's time alone.
+/// Reads and hears by this buffer. The loop stands apart from where its buffer is made for the prover's time alone. Both have all their
+/// answers written, so that what doesn't hold is refused at once.
 #[tactic(none)]
 fn read_with<I: Source, L: Listener>(
     alloc: Global,
@@ -149,6 +148,7 @@ fn read_with<I: Source, L: Listener>(
 
 /// Reads an input up to an exit, its end or a fault, and lets the listener hear each message as soon as its frame is whole. The read with
 /// the number `reads` isn't made: it counts as one that failed.
+#[tactic(none)]
 pub fn listen<I: Source, L: Listener>(
     alloc: Global,
     source: &mut I,

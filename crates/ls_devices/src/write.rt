@@ -1,7 +1,7 @@
 //! Writing.
 ghost use Rattle.std.specs.Prelude.{◌≡◌, ◌||◌, IfErr, OnOk, false};
 ghost use Rattle.std.specs.Io.KnownBytes.{Appends};
-ghost use Rattle.ls_devices.specs.Devices.{AppendsFront, is_failed};
+ghost use Rattle.ls_devices.specs.Devices.{AppendsPrefix, is_failed};
 
 use crate::device::{DeviceFault, Sink};
 
@@ -12,7 +12,7 @@ use crate::device::{DeviceFault, Sink};
 /// `Failed` where the sink failed. A prefix of the bytes has been written then.
 pub fn write_all<W: Sink>(writer: &mut W, bytes: &[u8]) -> Result<(), DeviceFault>
     ensures ok { OnOk result (Appends (W.contents writer.old) (W.contents writer.new) bytes.now) }
-    ensures front { AppendsFront (W.contents writer.old) (W.contents writer.new) bytes.now }
+    ensures prefix { AppendsPrefix (W.contents writer.old) (W.contents writer.new) bytes.now }
     ensures failed { W.failed writer.new ≡ (W.failed writer.old || is_failed result) }
     ensures fault { IfErr result (λ e. e ≡ DeviceFault.Failed) }
 {
@@ -30,7 +30,7 @@ pub fn write_all<W: Sink>(writer: &mut W, bytes: &[u8]) -> Result<(), DeviceFaul
 /// `Failed` where the sink failed. A prefix of the bytes has been written then.
 pub fn write_and_flush<W: Sink>(writer: &mut W, bytes: &[u8]) -> Result<(), DeviceFault>
     ensures ok { OnOk result (Appends (W.contents writer.old) (W.contents writer.new) bytes.now) }
-    ensures front { AppendsFront (W.contents writer.old) (W.contents writer.new) bytes.now }
+    ensures prefix { AppendsPrefix (W.contents writer.old) (W.contents writer.new) bytes.now }
     ensures failed { W.failed writer.new ≡ (W.failed writer.old || is_failed result) }
     ensures flushed { OnOk result (W.unflushed writer.new ≡ false) }
     ensures fault { IfErr result (λ e. e ≡ DeviceFault.Failed) }

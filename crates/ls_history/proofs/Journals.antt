@@ -11,8 +11,8 @@ use Rattle.ls_machine.specs.declared.event.DeskFault.{DeskFault}
 use Rattle.ls_machine.specs.declared.event.Event.{Event}
 use Rattle.ls_machine.proofs.Replays.{total_one}
 use Rattle.ls_desk.specs.Door.{entered_at}
-use Rattle.ls_history.specs.declared.happened.Happened.{Happened}
-use Rattle.ls_history.specs.declared.happened.Happened.TheVariants.{Began, Heard, Left, Stopped, Worked}
+use Rattle.ls_history.specs.declared.history_entry.HistoryEntry.{HistoryEntry}
+use Rattle.ls_history.specs.declared.history_entry.HistoryEntry.TheVariants.{Began, Heard, Left, Stopped, Worked}
 use Rattle.ls_history.specs.History as history
 use Rattle.ls_history.specs.History.{IsLegal, IsReply, IsRoomy, IsNext, replay}
 use Rattle.ls_history.specs.Places.{Place, beginning, entered, happens, heard_at}
@@ -55,7 +55,7 @@ limit_stays p (Some e) = refl
 fits_by : (most : ℕ) (p : Place) → p.limit ≡ Some most → IsRoomy p → total p.counts + length p.state.unsent ≤ most
 fits_by most p limit roomy = subst (λ (o : Option ℕ). total p.counts + length p.state.unsent ≤ unwrap_or o 0) limit roomy
 
-journal_from : (most : ℕ) (p : Place) (log : List Happened) → p.limit ≡ Some most → history.IsLegalFrom p log → Goes most p (replay p log) (events_of log)
+journal_from : (most : ℕ) (p : Place) (log : List HistoryEntry) → p.limit ≡ Some most → history.IsLegalFrom p log → Goes most p (replay p log) (events_of log)
 unfolding replay_from counted IsLegalFrom
 journal_from most p [] limit legal = record { legal = tt; state_is = refl; counts_are = refl }
 journal_from most p (Began other ∷ log) limit legal = absurd (let none = ap (λ (q : Place). q.limit) legal.0.0 in cc (limit, none))
@@ -78,7 +78,7 @@ journal_from most p (Worked event ∷ log) limit legal =
     (fits_by most (entered p o) limit legal.0.1) (journal_from most (entered p o) log limit legal.1)
 journal_from most p (Stopped stop ∷ log) limit legal = journal_from most p log limit legal.1
 
-pub limit_kept : (most : ℕ) (p : Place) (log : List Happened) → p.limit ≡ Some most → history.IsLegalFrom p log → (replay p log).limit ≡ Some most
+pub limit_kept : (most : ℕ) (p : Place) (log : List HistoryEntry) → p.limit ≡ Some most → history.IsLegalFrom p log → (replay p log).limit ≡ Some most
 limit_kept most p [] limit legal = limit
 limit_kept most p (Began other ∷ log) limit legal = absurd (let none = ap (λ (q : Place). q.limit) legal.0.0 in cc (limit, none))
 limit_kept most p (Heard e reply ∷ log) limit legal =
@@ -92,7 +92,7 @@ no_room : (o : Option Event) (event : Event) → o ≡ Some event → IsRoomy (e
 no_room None event is roomy = absurd (cc (is))
 no_room (Some e) event is roomy = let one : total (count_one no_events e) ≡ total no_events + 1 = total_one no_events e in absurd (omega (arith, one, roomy))
 
-from_beginning : (most : ℕ) (log : List Happened) → IsLegal log → (replay beginning log).limit ≡ Some most → Goes most beginning (replay beginning log) (events_of log)
+from_beginning : (most : ℕ) (log : List HistoryEntry) → IsLegal log → (replay beginning log).limit ≡ Some most → Goes most beginning (replay beginning log) (events_of log)
 from_beginning most [] legal limit = absurd (cc (limit))
 from_beginning most (Began other ∷ log) legal limit =
     let kept = limit_kept other (happens beginning (Began other)) log refl legal.1 in

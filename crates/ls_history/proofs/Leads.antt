@@ -19,9 +19,9 @@ use Rattle.ls_answers.specs.declared.job.Job.{Job}
 use Rattle.ls_desk.specs.Door.{Admits, client_fault, entered_at}
 use Rattle.ls_desk.specs.Faults.{Refuses, Takes}
 use Rattle.ls_desk.specs.Stands.{Enters, IsSound, Seen, Sends, counts_of, state_of, ticket_of_out}
-use Rattle.ls_history.specs.declared.happened.Happened.{Happened}
-use Rattle.ls_history.specs.declared.happened.Happened.TheVariants.{Began, Heard, Left, Stopped, Worked}
-use Rattle.ls_history.specs.History.{HasLedTo, IsHistoryOf, IsReply, IsRoomy, IsNext, MayHappen, is_workers, replay}
+use Rattle.ls_history.specs.declared.history_entry.HistoryEntry.{HistoryEntry}
+use Rattle.ls_history.specs.declared.history_entry.HistoryEntry.TheVariants.{Began, Heard, Left, Stopped, Worked}
+use Rattle.ls_history.specs.History.{HasLedTo, IsDesk, IsHistoryOf, IsReply, IsRoomy, IsNext, LeadsOn, MayHappen, is_workers, replay}
 use Rattle.ls_history.specs.Places.{Place, beginning, desk_at, entered, happens, place_of}
 use Rattle.ls_history.specs.Laws.{HistoriesBegin, HistoriesGoOn, IsDone}
 use Rattle.ls_history.proofs.Histories.{led_more, legal_more}
@@ -87,7 +87,7 @@ sound_roomy d sound =
     omega (arith, bound, same, past_length d.max_events d.base past sound.past.1, total_counted d.base.counts d.journal, length-append past d.journal)
 
 -- what may happen where a desk stands may happen behind the history that led there
-pub may_more : (before : Place) (after : Seen) (log : List Happened) (h : Happened) → before ≡ replay beginning log → place_of after ≡ happens before h → IsNext before h → IsSound after
+pub may_more : (before : Place) (after : Seen) (log : List HistoryEntry) (h : HistoryEntry) → before ≡ replay beginning log → place_of after ≡ happens before h → IsNext before h → IsSound after
     → MayHappen (replay beginning log) h
 may_more before after log h led goes may sound =
     (subst (λ (p : Place). IsNext p h) led may, subst IsRoomy (goes ∙ ap (λ (p : Place). happens p h) led) (sound_roomy after sound))
@@ -139,10 +139,10 @@ begins_led d journal counts sound =
 
 -- ---- a history with one entry more
 
-pub more_may : (old new : Seen) (log : List Happened) (h : Happened) → HasLedTo old log → place_of new ≡ happens (place_of old) h → IsNext (place_of old) h → IsSound new → MayHappen (replay beginning log) h
+pub more_may : (old new : Seen) (log : List HistoryEntry) (h : HistoryEntry) → HasLedTo old log → place_of new ≡ happens (place_of old) h → IsNext (place_of old) h → IsSound new → MayHappen (replay beginning log) h
 more_may old new log h led goes next sound = may_more (place_of old) new log h led goes next sound
 
-pub more_led : (old new : Seen) (log more : List Happened) (h : Happened) → HasLedTo old log → more ≡ log ++ h ∷ [] → place_of new ≡ happens (place_of old) h → HasLedTo new more
+pub more_led : (old new : Seen) (log more : List HistoryEntry) (h : HistoryEntry) → HasLedTo old log → more ≡ log ++ h ∷ [] → place_of new ≡ happens (place_of old) h → HasLedTo new more
 more_led old new log more h led added goes = led_more (place_of old) (place_of new) log more h led added goes
 
 heard_next : (e told : ClientEvent) (reply : Result ClientAnswer DeskFault) (old new : Seen) → e ≡ told → IfOk reply (λ answer. Admits e answer old new)
@@ -150,19 +150,19 @@ heard_next : (e told : ClientEvent) (reply : Result ClientAnswer DeskFault) (old
 heard_next e told reply old new same ok err =
     subst (λ (x : ClientEvent). IsReply (place_of old) x reply) same (reply_may e reply old new (replies_from e reply old new ok err))
 
-pub heard_may : (e told : ClientEvent) (reply : Result ClientAnswer DeskFault) (old new : Seen) (log : List Happened) → e ≡ told → HasLedTo old log
+pub heard_may : (e told : ClientEvent) (reply : Result ClientAnswer DeskFault) (old new : Seen) (log : List HistoryEntry) → e ≡ told → HasLedTo old log
     → IfOk reply (λ answer. Admits e answer old new) → IfErr reply (λ fault. Refuses (client_fault old e) old new fault) → IsSound new → MayHappen (replay beginning log) (Heard told reply)
 heard_may e told reply old new log same led ok err sound =
     more_may old new log (Heard told reply) led (heard_goes e told reply old new same ok err) (heard_next e told reply old new same ok err) sound
 
-pub heard_led : (e told : ClientEvent) (reply : Result ClientAnswer DeskFault) (old new : Seen) (log more : List Happened) → e ≡ told → HasLedTo old log
+pub heard_led : (e told : ClientEvent) (reply : Result ClientAnswer DeskFault) (old new : Seen) (log more : List HistoryEntry) → e ≡ told → HasLedTo old log
     → IfOk reply (λ answer. Admits e answer old new) → IfErr reply (λ fault. Refuses (client_fault old e) old new fault) → more ≡ log ++ Heard told reply ∷ [] → HasLedTo new more
 heard_led e told reply old new log more same led ok err added =
     more_led old new log more (Heard told reply) led added (heard_goes e told reply old new same ok err)
 
 -- ---- what a desk did
 
-done_led : (old new : Seen) (h : Happened) → IsDone h old new → place_of new ≡ happens (place_of old) h
+done_led : (old new : Seen) (h : HistoryEntry) → IsDone h old new → place_of new ≡ happens (place_of old) h
 done_led old new (Began most) done = absurd done
 done_led old new (Heard e (Ok answer)) done = reply_led e (Ok answer) old new done
 done_led old new (Heard e (Err fault)) done = elim done [ inl refuses ↦ reply_led e (Err fault) old new refuses | inr short ↦ ap place_of short.1 ]
@@ -170,13 +170,38 @@ done_led old new (Left out) done = sends_led old new out done
 done_led old new (Worked event) done = worked_led old new event done.0
 done_led old new (Stopped stop) done = ap place_of done
 
-done_next : (old new : Seen) (h : Happened) → IsDone h old new → IsNext (place_of old) h
+done_next : (old new : Seen) (h : HistoryEntry) → IsDone h old new → IsNext (place_of old) h
 done_next old new (Began most) done = absurd done
 done_next old new (Heard e (Ok answer)) done = reply_may e (Ok answer) old new done
 done_next old new (Heard e (Err fault)) done = elim done [ inl refuses ↦ reply_may e (Err fault) old new refuses | inr short ↦ inl short.0 ]
 done_next old new (Left out) done = sends_may old new out done
 done_next old new (Worked event) done = worked_may old new event done.0 done.1
 done_next old new (Stopped stop) done = tt
+
+-- so the history may have an entry more of it
+pub done_leads : (old new : Seen) (log : List HistoryEntry) (h : HistoryEntry) → HasLedTo old log → IsDone h old new → LeadsOn log h new
+done_leads old new log h led done = record {
+  next = subst (λ (p : Place). IsNext p h) led (done_next old new h done);
+  led = done_led old new h done ∙ ap (λ (p : Place). happens p h) led;
+}
+
+-- which is legal, and leads to where the desk stands
+pub leads_may : (log : List HistoryEntry) (h : HistoryEntry) (d : Seen) → LeadsOn log h d → IsSound d → MayHappen (replay beginning log) h
+leads_may log h d leads sound = may_more (replay beginning log) d log h refl leads.led leads.next sound
+
+pub leads_led : (log new : List HistoryEntry) (h : HistoryEntry) (d : Seen) → LeadsOn log h d → new ≡ log ++ h ∷ [] → HasLedTo d new
+leads_led log new h d leads added = led_more (replay beginning log) (place_of d) log new h refl added leads.led
+
+pub begins_leads : (d : Seen) (log : List HistoryEntry) → log ≡ [] → d.journal ≡ [] → IsDesk d → LeadsOn log (Began d.max_events) d
+begins_leads d log none journal is =
+    let led = begins_led d journal (is.none journal) is.sound in
+    subst (λ (l : List HistoryEntry). LeadsOn l (Began d.max_events) d) (sym none) (record { next = refl; led = led })
+
+-- what a desk answered or refused
+pub reply_done : (e : ClientEvent) (reply : Result ClientAnswer DeskFault) (old new : Seen) → IfOk reply (λ answer. Admits e answer old new)
+    → IfErr reply (λ fault. Refuses (client_fault old e) old new fault) → IsDone (Heard e reply) old new
+reply_done e (Ok answer) old new ok err = ok
+reply_done e (Err fault) old new ok err = inl err
 
 pub begins_history : (d : Seen) → IsSound d → d.journal ≡ [] → counts_of d ≡ no_events → IsHistoryOf d (Began d.max_events ∷ [])
 begins_history d sound journal counts =

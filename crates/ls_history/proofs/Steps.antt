@@ -1,5 +1,5 @@
 -- Steps of workers and of the writer: one is possible, and they come to an end.
-use Rattle.std.proofs.Common.{◌≡◌, ◌⊎◌, ⊎_elim, inl, inr, ◌∙◌, ◌+◌, ◌<◌, ◌≤◌, ◌++◌, ◌∷◌, [], ℕ, zero, suc, List, Bool, true, false, Option, Some, None, length, refl, ap, sym, subst, arith, append_assoc, append-nil, length-append}
+use Rattle.std.proofs.Common.{◌≡◌, ⊎_elim, inl, inr, ◌∙◌, ◌+◌, ◌<◌, ◌≤◌, ◌++◌, ◌∷◌, [], ℕ, zero, suc, List, Bool, true, false, Option, Some, None, length, refl, ap, sym, subst, arith, append_assoc, append-nil, length-append}
 use Rattle.std.specs.Prelude.{unwrap_or}
 use Rattle.std.proofs.lemmas.Bool.{cases_lt}
 use Rattle.std.proofs.lemmas.List.Elements.{filter_map-append}
@@ -19,8 +19,8 @@ use Rattle.ls_machine.proofs.Steps.{goes_on, nothing_left, steps_few}
 use Rattle.ls_machine.proofs.Replays.{total_one}
 use Rattle.ls_machine.proofs.ShortTexts.{AreShort, Each, IsShortEntry, short_legal}
 use Rattle.ls_desk.specs.Stands.{IsOutFor, out_of, ticket_of_out}
-use Rattle.ls_history.specs.declared.happened.Happened.{Happened}
-use Rattle.ls_history.specs.declared.happened.Happened.TheVariants.{Began, Heard, Left, Stopped, Worked}
+use Rattle.ls_history.specs.declared.history_entry.HistoryEntry.{HistoryEntry}
+use Rattle.ls_history.specs.declared.history_entry.HistoryEntry.TheVariants.{Began, Heard, Left, Stopped, Worked}
 use Rattle.ls_history.specs.History.{IsLegal, IsLegalFrom, IsReplyOut, IsRoomy, MayHappen, replay}
 use Rattle.ls_history.specs.Places.{Place, beginning, happens}
 use Rattle.ls_history.specs.Progress.{AreSteps, CanGoOn, HasRoom, SchedulesEnd, StepsAreFew, WorkGoesOn, is_step, left_at}
@@ -55,7 +55,7 @@ few_steps p (Worked (Sent ticket)) is may = absurd (cc (is))
 
 -- ---- the texts of a legal history's place are short
 
-short_by : (o : Option ℕ) (log : List Happened) → (replay beginning log).limit ≡ o → IsLegal log → HasRoom (replay beginning log) → 0 < left_at (replay beginning log) → AreShort (replay beginning log).state
+short_by : (o : Option ℕ) (log : List HistoryEntry) → (replay beginning log).limit ≡ o → IsLegal log → HasRoom (replay beginning log) → 0 < left_at (replay beginning log) → AreShort (replay beginning log).state
 short_by None log limit legal room more =
     let most : unwrap_or (replay beginning log).limit 0 ≡ 0 = ap (λ (l : Option ℕ). unwrap_or l 0) limit in
     absurd (omega (arith, most, room, more))
@@ -127,7 +127,7 @@ histories_go_on log legal room more =
 
 -- one step that can be made
 record Step (p : Place) : Type 0 where
-  entry : Happened
+  entry : HistoryEntry
   may : MayHappen p entry
   is : is_step entry ≡ true
 
@@ -137,23 +137,23 @@ one_step p (inr (inl finish)) = record { entry = Worked (Finished finish.0 false
 one_step p (inr (inr send)) = record { entry = Left send.0; may = send.1; is = refl }
 
 -- steps behind a history that leave nothing
-record Ends (log : List Happened) : Type 0 where
-  more : List Happened
+record Ends (log : List HistoryEntry) : Type 0 where
+  more : List HistoryEntry
   steps : AreSteps more
   few : length more ≤ left_at (replay beginning log)
   legal : IsLegal (log ++ more)
   none : left_at (replay beginning (log ++ more)) ≡ 0
 
-ended : (log : List Happened) → IsLegal log → left_at (replay beginning log) ≡ 0 → Ends log
+ended : (log : List HistoryEntry) → IsLegal log → left_at (replay beginning log) ≡ 0 → Ends log
 ended log legal none = record {
   more = [];
   steps = tt;
   few = omega arith;
   legal = subst IsLegal (sym (append-nil log)) legal;
-  none = ap (λ (l : List Happened). left_at (replay beginning l)) (append-nil log) ∙ none;
+  none = ap (λ (l : List HistoryEntry). left_at (replay beginning l)) (append-nil log) ∙ none;
 }
 
-after : (log : List Happened) (h : Happened) → is_step h ≡ true → left_at (replay beginning (log ++ h ∷ [])) < left_at (replay beginning log) → Ends (log ++ h ∷ []) → Ends log
+after : (log : List HistoryEntry) (h : HistoryEntry) → is_step h ≡ true → left_at (replay beginning (log ++ h ∷ [])) < left_at (replay beginning log) → Ends (log ++ h ∷ []) → Ends log
 after log h is fewer ends =
     let all : (log ++ h ∷ []) ++ ends.more ≡ log ++ h ∷ ends.more = append_assoc log (h ∷ []) ends.more in
     record {
@@ -161,11 +161,11 @@ after log h is fewer ends =
       steps = (is, ends.steps);
       few = omega (arith, fewer, ends.few);
       legal = subst IsLegal all ends.legal;
-      none = ap (λ (l : List Happened). left_at (replay beginning l)) (sym all) ∙ ends.none;
+      none = ap (λ (l : List HistoryEntry). left_at (replay beginning l)) (sym all) ∙ ends.none;
     }
 
-step_on : (log : List Happened) → IsLegal log → HasRoom (replay beginning log) → 0 < left_at (replay beginning log)
-    → ((next : List Happened) → IsLegal next → HasRoom (replay beginning next) → left_at (replay beginning next) < left_at (replay beginning log) → Ends next) → Ends log
+step_on : (log : List HistoryEntry) → IsLegal log → HasRoom (replay beginning log) → 0 < left_at (replay beginning log)
+    → ((next : List HistoryEntry) → IsLegal next → HasRoom (replay beginning next) → left_at (replay beginning next) < left_at (replay beginning log) → Ends next) → Ends log
 step_on log legal room more later =
     let p = replay beginning log in
     let s = one_step p (histories_go_on log legal room more) in
@@ -174,7 +174,7 @@ step_on log legal room more later =
     let fewer = subst (λ (q : Place). left_at q < left_at p) led few.0 in
     after log s.entry s.is fewer (later (log ++ s.entry ∷ []) (legal_more beginning log s.entry legal s.may) (subst HasRoom led (few.1 room)) fewer)
 
-ends_within : (fuel : ℕ) (log : List Happened) → IsLegal log → HasRoom (replay beginning log) → left_at (replay beginning log) ≤ fuel → Ends log
+ends_within : (fuel : ℕ) (log : List HistoryEntry) → IsLegal log → HasRoom (replay beginning log) → left_at (replay beginning log) ≤ fuel → Ends log
 ends_within zero log legal room within = ended log legal (omega (arith, within))
 ends_within (suc fuel) log legal room within = ⊎_elim
     (λ more. step_on log legal room more (λ next fine roomy fewer. ends_within fuel next fine roomy (omega (arith, within, fewer))))
@@ -183,16 +183,16 @@ ends_within (suc fuel) log legal room within = ⊎_elim
 
 -- ---- whichever steps were made
 
-pub legal_behind : (p : Place) (xs ys : List Happened) → IsLegalFrom p (xs ++ ys) → IsLegalFrom (replay p xs) ys
+pub legal_behind : (p : Place) (xs ys : List HistoryEntry) → IsLegalFrom p (xs ++ ys) → IsLegalFrom (replay p xs) ys
 legal_behind p [] ys legal = legal
 legal_behind p (x ∷ xs) ys legal = legal_behind (happens p x) xs ys legal.1
 
 -- they have left fewer, and there is room for these
-record Kept (p q : Place) (made : List Happened) : Type 0 where
+record Kept (p q : Place) (made : List HistoryEntry) : Type 0 where
   room : HasRoom q
   few : length made + left_at q ≤ left_at p
 
-kept_by : (p : Place) (made : List Happened) → IsLegalFrom p made → AreSteps made → HasRoom p → Kept p (replay p made) made
+kept_by : (p : Place) (made : List HistoryEntry) → IsLegalFrom p made → AreSteps made → HasRoom p → Kept p (replay p made) made
 kept_by p [] legal steps room = record { room = room; few = omega arith }
 kept_by p (h ∷ hs) legal steps room =
     let one = few_steps p h steps.0 legal.0 in
@@ -217,7 +217,7 @@ schedules log made legal steps room =
 
 -- ---- and nothing is heard there
 
-steps_heard : (more : List Happened) → AreSteps more → heard_of more ≡ []
+steps_heard : (more : List HistoryEntry) → AreSteps more → heard_of more ≡ []
 steps_heard [] steps = refl
 steps_heard (Began most ∷ hs) steps = absurd (cc (steps.0))
 steps_heard (Heard e reply ∷ hs) steps = absurd (cc (steps.0))
@@ -225,5 +225,5 @@ steps_heard (Left out ∷ hs) steps = steps_heard hs steps.1
 steps_heard (Worked event ∷ hs) steps = steps_heard hs steps.1
 steps_heard (Stopped stop ∷ hs) steps = absurd (cc (steps.0))
 
-pub heard_stays : (log more : List Happened) → AreSteps more → heard_of (log ++ more) ≡ heard_of log
+pub heard_stays : (log more : List HistoryEntry) → AreSteps more → heard_of (log ++ more) ≡ heard_of log
 heard_stays log more steps = filter_map-append heard_of_one log more ∙ (ap (λ l. heard_of log ++ l) (steps_heard more steps) ∙ append-nil (heard_of log))

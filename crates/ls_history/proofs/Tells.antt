@@ -14,8 +14,8 @@ use Rattle.ls_machine.specs.declared.event.Event.{Event}
 use Rattle.ls_machine.specs.declared.event.Event.TheVariants.{Opened, Changed, Closed, Asked, Cancelled, Said, Took, Returned, Finished, Sent}
 use Rattle.ls_machine.specs.declared.state.State.{State}
 use Rattle.ls_desk.specs.Door.{client_fault, entered_at}
-use Rattle.ls_history.specs.declared.happened.Happened.{Happened}
-use Rattle.ls_history.specs.declared.happened.Happened.TheVariants.{Began, Heard, Left, Stopped, Worked}
+use Rattle.ls_history.specs.declared.history_entry.HistoryEntry.{HistoryEntry}
+use Rattle.ls_history.specs.declared.history_entry.HistoryEntry.TheVariants.{Began, Heard, Left, Stopped, Worked}
 use Rattle.ls_history.specs.History.{IsLegalFrom, IsReply, is_workers, replay}
 use Rattle.ls_history.specs.Laws.{BeginningsAgree, HistoriesCount, RepliesAreUnique, answer_of_one}
 use Rattle.ls_history.specs.Places.{Place, beginning, desk_at, entered, happens, heard_at}
@@ -92,11 +92,11 @@ replies_unique p e (Err f) (Err g) is also one other =
 
 -- ---- counts
 
-answered : List Happened → ℕ
+answered : List HistoryEntry → ℕ
 answered log = length (filter_map answer_of_one (heard_of log))
 
 -- so many of the client's events had an answer, and so many replies left, between two places
-record Counted (p q : Place) (log : List Happened) : Type 0 where
+record Counted (p q : Place) (log : List HistoryEntry) : Type 0 where
   client : answered log + p.counts.client ≡ q.counts.client
   sent : length (outs_of log) + p.counts.sent ≡ q.counts.sent
 
@@ -120,7 +120,7 @@ none_of_workers (Returned ticket) c is = (refl, refl)
 none_of_workers (Finished ticket failed) c is = (refl, refl)
 none_of_workers (Sent ticket) c is = absurd (cc (is))
 
-counted_from : (p : Place) (log : List Happened) → IsLegalFrom p log → Counted p (replay p log) log
+counted_from : (p : Place) (log : List HistoryEntry) → IsLegalFrom p log → Counted p (replay p log) log
 unfolding answered
 counted_from p [] legal = record { client = omega arith; sent = omega arith }
 counted_from p (Began most ∷ log) legal = let more = counted_from (happens p (Began most)) log legal.1 in record { client = more.client; sent = more.sent }

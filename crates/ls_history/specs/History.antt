@@ -1,8 +1,9 @@
 -- When a history is legal: each entry may happen where those before it have led.
-use Rattle.std.specs.Prelude.{◌≡◌, ◌⊎◌, ◌+◌, ◌≤◌, length, List, [], ◌∷◌, Bool, true, false, Some, None, Result, Ok, Err, unwrap_or}
-use Rattle.ls_machine.specs.Counts.{total}
+use Rattle.std.specs.Prelude.{◌≡◌, ◌⊎◌, ◌+◌, ◌<◌, ◌≤◌, ◌^◌, length, List, [], ◌∷◌, Bool, true, false, Some, None, Result, Ok, Err, unwrap_or}
+use Rattle.ls_machine.specs.Counts.{no_events, total}
 use Rattle.ls_machine.specs.Client.{entry_of}
 use Rattle.ls_machine.specs.Machine.{IsPossible}
+use Rattle.ls_machine.specs.declared.base.Counts.{Counts}
 use Rattle.ls_machine.specs.declared.client.ClientAnswer.{ClientAnswer}
 use Rattle.ls_machine.specs.declared.client.ClientEvent.{ClientEvent}
 use Rattle.ls_machine.specs.declared.event.DeskFault.{DeskFault}
@@ -12,9 +13,9 @@ use Rattle.ls_machine.specs.declared.event.Event.TheVariants.{Sent, Took, Return
 use Rattle.ls_machine.specs.declared.event.Out.{Out}
 use Rattle.ls_machine.specs.declared.state.Entry.{Entry}
 use Rattle.ls_desk.specs.Door.{client_fault, entered_at}
-use Rattle.ls_desk.specs.Stands.{IsOutFor, Seen, ticket_of_out}
-use Rattle.ls_history.specs.declared.happened.Happened.{Happened}
-use Rattle.ls_history.specs.declared.happened.Happened.TheVariants.{Began, Heard, Left, Stopped, Worked}
+use Rattle.ls_desk.specs.Stands.{IsOutFor, IsSound, Seen, counts_of, ticket_of_out}
+use Rattle.ls_history.specs.declared.history_entry.HistoryEntry.{HistoryEntry}
+use Rattle.ls_history.specs.declared.history_entry.HistoryEntry.TheVariants.{Began, Heard, Left, Stopped, Worked}
 use Rattle.ls_history.specs.Places.{Place, beginning, desk_at, happens, place_of}
 
 -- An answer stands where nothing is against the event, and is the machine's. A refusal stands where it is the first whose cause holds.
@@ -35,7 +36,7 @@ is_workers (Finished ticket failed) = true
 is_workers _ = false
 
 -- The entry is possible there. A history begins but once, and a board may always be asked to end.
-abbrev pub IsNext : Place → Happened → Type 0
+abbrev pub IsNext : Place → HistoryEntry → Type 0
 IsNext p (Began most) = p ≡ beginning
 IsNext p (Heard e reply) = IsReply p e reply
 IsNext p (Left out) = IsReplyOut p out
@@ -47,28 +48,48 @@ abbrev pub IsRoomy : Place → Type 0
 IsRoomy p = total p.counts + length p.state.unsent ≤ unwrap_or p.limit 0
 
 -- The entry is possible there, and behind it the events and the unsent entries are within the limit.
-abbrev pub MayHappen : Place → Happened → Type 0
+abbrev pub MayHappen : Place → HistoryEntry → Type 0
 MayHappen p h = IsNext p h × IsRoomy (happens p h)
 
 -- where entries lead, one after the other
-abbrev pub replay : Place → List Happened → Place
+abbrev pub replay : Place → List HistoryEntry → Place
 replay p [] = p
 replay p (h ∷ hs) = replay (happens p h) hs
 
 -- Each entry may happen where it stands, from this place on.
-abbrev pub IsLegalFrom : Place → List Happened → Type 0
+abbrev pub IsLegalFrom : Place → List HistoryEntry → Type 0
 IsLegalFrom p [] = Unit {0}
 IsLegalFrom p (h ∷ hs) = MayHappen p h × IsLegalFrom (happens p h) hs
 
 -- Each entry may happen where it stands, from the beginning on.
-abbrev pub IsLegal : List Happened → Type 0
+abbrev pub IsLegal : List HistoryEntry → Type 0
 IsLegal log = IsLegalFrom beginning log
 
 -- The history has led to where the desk stands: to its state, its counts and its limit.
-abbrev pub HasLedTo : Seen → List Happened → Type 0
+abbrev pub HasLedTo : Seen → List HistoryEntry → Type 0
 HasLedTo d log = place_of d ≡ replay beginning log
 
 -- The history is legal, and has led to where the desk stands.
-pub record IsHistoryOf (d : Seen) (log : List Happened) : Type 0 where
+pub record IsHistoryOf (d : Seen) (log : List HistoryEntry) : Type 0 where
   pub legal : IsLegal log
   pub led : HasLedTo d log
+
+-- The entry is possible where the history has led, and leads from there to where the desk stands.
+pub record LeadsOn (log : List HistoryEntry) (h : HistoryEntry) (d : Seen) : Type 0 where
+  pub next : IsNext (replay beginning log) h
+  pub led : place_of d ≡ happens (replay beginning log) h
+
+-- Each count fits 64 bits.
+pub record AreSmall (counts : Counts) : Type 0 where
+  pub client : counts.client < 2 ^ 64
+  pub took : counts.took < 2 ^ 64
+  pub returned : counts.returned < 2 ^ 64
+  pub finished : counts.finished < 2 ^ 64
+  pub sent : counts.sent < 2 ^ 64
+
+-- What each desk is by its type: it stands for what its legal journal leads to; where that is empty nothing has happened; and each of its
+-- counts fits 64 bits.
+pub record IsDesk (d : Seen) : Type 0 where
+  pub sound : IsSound d
+  pub none : d.journal ≡ [] → counts_of d ≡ no_events
+  pub small : AreSmall (counts_of d)

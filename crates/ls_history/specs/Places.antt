@@ -11,8 +11,8 @@ use Rattle.ls_machine.specs.declared.event.Event.{Event}
 use Rattle.ls_machine.specs.declared.event.Event.TheVariants.{Sent}
 use Rattle.ls_machine.specs.declared.state.State.{State}
 use Rattle.ls_desk.specs.Stands.{Seen, counts_of, state_of, ticket_of_out}
-use Rattle.ls_history.specs.declared.happened.Happened.{Happened}
-use Rattle.ls_history.specs.declared.happened.Happened.TheVariants.{Began, Heard, Left, Stopped, Worked}
+use Rattle.ls_history.specs.declared.history_entry.HistoryEntry.{HistoryEntry}
+use Rattle.ls_history.specs.declared.history_entry.HistoryEntry.TheVariants.{Began, Heard, Left, Stopped, Worked}
 
 -- Where a history has led: how many events and unsent replies there may be together, once there is a desk; the state that the desk is in;
 -- and how many events of each kind there were.
@@ -44,7 +44,7 @@ heard_at p e (Ok answer) = entered p (entry_of e answer)
 heard_at p e (Err fault) = p
 
 -- Where an entry leads. The beginning sets the limit, and an end that is asked for changes nothing of this.
-abbrev pub happens : Place → Happened → Place
+abbrev pub happens : Place → HistoryEntry → Place
 happens p (Began most) = record { limit = Some most; state = p.state; counts = p.counts }
 happens p (Heard e reply) = heard_at p e reply
 happens p (Left out) = entered p (Some (Sent (ticket_of_out out)))

@@ -1,14 +1,18 @@
-//! The word that all threads share, and what each of them has seen of the history.
+//! The history that all threads share, and what each of them has seen of it.
 ghost use Rattle.std.specs.Prelude.{◌≡◌, ◌++◌, ◌∷◌, [], MatchBool, None, length, nat_le};
-ghost use Rattle.ls_history.specs.History.{IsLegal, MayHappen, replay};
+ghost use Rattle.ls_history.specs.History.{HasLedTo, IsDesk, IsLegal, LeadsOn, MayHappen, replay};
 ghost use Rattle.ls_history.specs.Places.{beginning};
 ghost use Rattle.ls_history.specs.Told.{LieBeside};
 ghost use mathlib.Core.List.{IsPrefix};
 ghost use Rattle.ls_history.specs.own.Rules.{head_of};
+ghost use Rattle.ls_history.specs.declared.history_entry.HistoryEntry.TheVariants.{Began, Heard};
 
-use crate::happened::Happened;
+use crate::entries::{Begins, Hearing, Hears};
+use crate::history_entry::HistoryEntry;
 use crate::rule::{Add, Law, Nothing};
 use logbook::{Offer, Plain, Seen, Start, Word};
+use ls_desk::{Desk, DeskFault};
+use ls_machine::ClientAnswer;
 use std::marker::{Brand, Model, PhantomData};
 use std::sync::Wait;
 
@@ -28,8 +32,8 @@ impl BookName for Brand {
 /// A book with an empty history, which has no type yet. Contracts see which book it is.
 #[derive(Drop)]
 pub struct BlankHistory {
-    head: Word<Happened, u64, Law>,
-    seen: Seen<Happened, u64, Law>,
+    head: Word<HistoryEntry, u64, Law>,
+    seen: Seen<HistoryEntry, u64, Law>,
 }
 
 impl Model for BlankHistory {
@@ -54,30 +58,30 @@ impl BlankHistory {
         }
     }
 
-    /// The word of the book, and a front that has seen nothing. The book must be the one that `C` names.
-    pub fn named<C: BookName>(self) -> (HistoryBook<C>, Front<C>)
+    /// The empty history of this book, which must be the one that `C` names.
+    pub fn named<C: BookName>(self) -> History<C>
         requires { self ≡ C.book }
-        ensures { result.1 ≡ [] }
+        ensures { result ≡ [] }
     {
         let BlankHistory { head, seen } = self;
-        (
-            HistoryBook {
+        History {
+            word: SharedWord {
                 head,
                 of: PhantomData,
             },
-            Front {
+            front: Front {
                 count: 0,
                 seen,
                 of: PhantomData,
             },
-        )
+        }
     }
 }
 
 /// The word that all threads share: the length of the history.
 #[derive(Drop)]
-pub struct HistoryBook<C: BookName> {
-    head: Word<Happened, u64, Law>,
+struct SharedWord<C: BookName> {
+    head: Word<HistoryEntry, u64, Law>,
     of: PhantomData<C>,
     ghost head_is: { head ≡ head_of C.book },
 }
@@ -86,15 +90,15 @@ pub struct HistoryBook<C: BookName> {
 #[derive(Drop)]
 pub struct Front<C: BookName> {
     count: u64,
-    seen: Seen<Happened, u64, Law>,
+    seen: Seen<HistoryEntry, u64, Law>,
     of: PhantomData<C>,
 }
 
 impl<C: BookName> Model for Front<C> {
     ghost use Rattle.std.specs.Prelude.{◌≡◌, List, length};
-    ghost use Rattle.ls_history.specs.declared.happened.Happened.{Happened};
+    ghost use Rattle.ls_history.specs.declared.history_entry.HistoryEntry.{HistoryEntry};
 
-    ghost Value = { List Happened };
+    ghost Value = { List HistoryEntry };
 
     ghost view = { λ f. f.seen.log };
 
@@ -129,18 +133,18 @@ impl<C: BookName> Front<C> {
         self.count <= other.count
     }
 
-    /// Sees what another front has seen, which isn't behind this one: it comes on from what it had seen itself.
+    /// Sees all of the history: it comes on from what it had seen itself.
     ///
-    /// Whoever has the desk has all of the history, and nobody has seen more. No proof knows that, so the lengths are compared: were this
-    /// the longer one, this would go on comparing.
-    pub fn follow(&mut self, rt: &impl Wait, all: &Front<C>)
-        ensures seen { self.new ≡ all.now }
-        ensures grows { IsPrefix self.old all.now }
+    /// Nobody has seen more than there is. No proof knows that, so the lengths are compared: were this the longer one, this would go on
+    /// comparing.
+    pub fn follow(&mut self, rt: &impl Wait, history: &History<C>)
+        ensures seen { self.new ≡ history.now }
+        ensures grows { IsPrefix self.old history.now }
     {
         for _ in rt.forever() {
-            if self.is_within(all) {
-                all.beside(self);
-                *self = all.again();
+            if self.is_within(&history.front) {
+                history.front.beside(self);
+                *self = history.seen();
                 return;
             }
         }
@@ -157,7 +161,11 @@ impl<C: BookName> Front<C> {
     }
 
     /// Adds an entry where this is all of the history, and says whether it did.
-    fn try_add<X, M: Plain<X, Happened, u64>>(&mut self, book: &HistoryBook<C>, about: &X) -> bool
+    fn try_add<X, M: Plain<X, HistoryEntry, u64>>(
+        &mut self,
+        word: &SharedWord<C>,
+        about: &X,
+    ) -> bool
         requires plain { M.state about.now ≡ None }
         requires possible { MayHappen (replay beginning self.old) (M.ask about.now) }
         ensures { MatchBool result (self.new ≡ self.old ++ M.ask about.now ∷ []) (self.new ≡ self.old) }
@@ -167,9 +175,9 @@ impl<C: BookName> Front<C> {
         }
         let count = self.count;
         let mut seen = self.seen.again();
-        let mut offer: Offer<Happened, u64, Law, Nothing> = seen.plain::<Nothing, X, M>(about);
+        let mut offer: Offer<HistoryEntry, u64, Law, Nothing> = seen.plain::<Nothing, X, M>(about);
         let mut pen = seen.no_pen();
-        let found = book
+        let found = word
             .head
             .compare_exchange::<Add, Nothing>(count, count + 1, &mut seen, &mut offer, &mut pen);
         if found != count {
@@ -179,16 +187,14 @@ impl<C: BookName> Front<C> {
         self.seen = seen;
         true
     }
-
-    /// Adds an entry to the history, all of which this is: it stands behind all that there was. It must be one that may happen there. One
-    /// compare-and-exchange of the word, and no memory.
+    /// Adds an entry where this is all of the history.
     ///
     /// Whoever has the desk is alone in adding. That the history isn't longer than this, no proof knows, so it looks: where it were, this
     /// would go on looking.
-    pub fn add<X, M: Plain<X, Happened, u64>>(
+    fn add<X, M: Plain<X, HistoryEntry, u64>>(
         &mut self,
         rt: &impl Wait,
-        book: &HistoryBook<C>,
+        word: &SharedWord<C>,
         about: &X,
     )
         requires plain { M.state about.now ≡ None }
@@ -196,10 +202,83 @@ impl<C: BookName> Front<C> {
         ensures { self.new ≡ self.old ++ M.ask about.now ∷ [] }
     {
         for _ in rt.forever() {
-            if self.try_add::<X, M>(book, about) {
+            if self.try_add::<X, M>(word, about) {
                 return;
             }
         }
         unreachable!()
+    }
+}
+
+/// All of a history, and the word that all threads share. Contracts see it as its entries. It lies beside the desk, behind a lock, and
+/// always leads to where that stands.
+#[derive(Drop)]
+pub struct History<C: BookName> {
+    word: SharedWord<C>,
+    front: Front<C>,
+}
+
+impl<C: BookName> Model for History<C> {
+    ghost use Rattle.std.specs.Prelude.{List};
+    ghost use Rattle.ls_history.specs.declared.history_entry.HistoryEntry.{HistoryEntry};
+
+    ghost Value = { List HistoryEntry };
+
+    ghost view = { λ h. h.front };
+}
+
+impl<C: BookName> History<C> {
+    /// The front that has seen all of it.
+    pub fn front(&self) -> &Front<C>
+        ensures { result.now ≡ self.now }
+    {
+        &self.front
+    }
+
+    /// A front of its own that has seen all of it. Takes no memory.
+    pub fn seen(&self) -> Front<C>
+        ensures { result ≡ self.now }
+    {
+        self.front.again()
+    }
+
+    /// The history begins, with the limit of a desk on which nothing has happened, and has led to where that stands.
+    pub fn begin(&mut self, rt: &impl Wait, desk: &Desk)
+        requires none { self.old ≡ [] }
+        requires journal { desk.now.journal ≡ [] }
+        ensures added { self.new ≡ Began desk.now.max_events ∷ [] }
+        ensures led { HasLedTo desk.now self.new }
+        ensures desk { IsDesk desk.now }
+    {
+        self.add::<Desk, Begins>(rt, desk, desk);
+    }
+
+    /// Adds a client's event, which `K` names, with its answer or its refusal: what [`History::add`] says.
+    pub fn add_heard<K: Hearing>(
+        &mut self,
+        rt: &impl Wait,
+        desk: &Desk,
+        reply: &Result<ClientAnswer, DeskFault>,
+    )
+        requires { IsDesk desk.now → LeadsOn self.old (Heard K.event reply.now) desk.now }
+        ensures added { self.new ≡ self.old ++ Heard K.event reply.now ∷ [] }
+        ensures led { HasLedTo desk.now self.new }
+        ensures desk { IsDesk desk.now }
+    {
+        self.add::<Result<ClientAnswer, DeskFault>, Hears<K>>(rt, desk, reply);
+    }
+
+    /// Adds an entry behind all that there was. It must be one that may happen there, and lead to where the desk stands now. One
+    /// compare-and-exchange of the word, and no memory.
+    pub fn add<X, M: Plain<X, HistoryEntry, u64>>(&mut self, rt: &impl Wait, desk: &Desk, about: &X)
+        requires plain { M.state about.now ≡ None }
+        requires leads { IsDesk desk.now → LeadsOn self.old (M.ask about.now) desk.now }
+        ensures added { self.new ≡ self.old ++ M.ask about.now ∷ [] }
+        ensures led { HasLedTo desk.now self.new }
+        ensures desk { IsDesk desk.now }
+    {
+        let _sound = desk.journal();
+        let _counts = desk.counts();
+        self.front.add::<X, M>(rt, &self.word, about);
     }
 }

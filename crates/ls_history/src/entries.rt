@@ -1,16 +1,9 @@
 //! How each kind of entry comes into the history.
-ghost use Rattle.std.specs.Prelude.{◌≡◌, ◌++◌, ◌∷◌, []};
-ghost use Rattle.ls_history.specs.declared.happened.Happened.TheVariants.{Heard};
-ghost use Rattle.ls_history.specs.History.{MayHappen, replay};
-ghost use Rattle.ls_history.specs.Places.{beginning};
-
-use crate::book::{BookName, Front, HistoryBook};
-use crate::happened::{Happened, Stop};
+use crate::history_entry::{HistoryEntry, Stop};
 use logbook::Plain;
 use ls_desk::{Desk, DeskFault, Out};
 use ls_machine::ClientAnswer;
 use std::marker::{Brand, PhantomData};
-use std::sync::Wait;
 
 /// Which event of the client an entry is about.
 pub trait Hearing {
@@ -29,9 +22,9 @@ impl Hearing for Brand {
 /// The entry of a client's event, by its answer or its refusal.
 pub struct Hears<K: Hearing>(PhantomData<K>);
 
-impl<K: Hearing> Plain<Result<ClientAnswer, DeskFault>, Happened, u64> for Hears<K> {
+impl<K: Hearing> Plain<Result<ClientAnswer, DeskFault>, HistoryEntry, u64> for Hears<K> {
     ghost use Rattle.std.specs.Prelude.{None};
-    ghost use Rattle.ls_history.specs.declared.happened.Happened.TheVariants.{Heard};
+    ghost use Rattle.ls_history.specs.declared.history_entry.HistoryEntry.TheVariants.{Heard};
 
     ghost ask = { λ reply. Heard K.event reply };
 
@@ -41,9 +34,9 @@ impl<K: Hearing> Plain<Result<ClientAnswer, DeskFault>, Happened, u64> for Hears
 /// The entry of a board that begins over a desk.
 pub struct Begins;
 
-impl Plain<Desk, Happened, u64> for Begins {
+impl Plain<Desk, HistoryEntry, u64> for Begins {
     ghost use Rattle.std.specs.Prelude.{None};
-    ghost use Rattle.ls_history.specs.declared.happened.Happened.TheVariants.{Began};
+    ghost use Rattle.ls_history.specs.declared.history_entry.HistoryEntry.TheVariants.{Began};
 
     ghost ask = { λ desk. Began desk.max_events };
 
@@ -53,9 +46,9 @@ impl Plain<Desk, Happened, u64> for Begins {
 /// The entry of a reply that leaves.
 pub struct Leaves;
 
-impl Plain<Out, Happened, u64> for Leaves {
+impl Plain<Out, HistoryEntry, u64> for Leaves {
     ghost use Rattle.std.specs.Prelude.{None};
-    ghost use Rattle.ls_history.specs.declared.happened.Happened.TheVariants.{Left};
+    ghost use Rattle.ls_history.specs.declared.history_entry.HistoryEntry.TheVariants.{Left};
 
     ghost ask = { λ out. Left out };
 
@@ -65,10 +58,10 @@ impl Plain<Out, Happened, u64> for Leaves {
 /// The entry of a job that a worker takes.
 pub struct TakesJob;
 
-impl Plain<u32, Happened, u64> for TakesJob {
+impl Plain<u32, HistoryEntry, u64> for TakesJob {
     ghost use Rattle.std.specs.Prelude.{None};
     ghost use Rattle.ls_machine.specs.declared.event.Event.TheVariants.{Took};
-    ghost use Rattle.ls_history.specs.declared.happened.Happened.TheVariants.{Worked};
+    ghost use Rattle.ls_history.specs.declared.history_entry.HistoryEntry.TheVariants.{Worked};
 
     ghost ask = { λ worker. Worked (Took worker) };
 
@@ -78,10 +71,10 @@ impl Plain<u32, Happened, u64> for TakesJob {
 /// The entry of a job that is given back unrun, by its ticket.
 pub struct ReturnsJob;
 
-impl Plain<u64, Happened, u64> for ReturnsJob {
+impl Plain<u64, HistoryEntry, u64> for ReturnsJob {
     ghost use Rattle.std.specs.Prelude.{None};
     ghost use Rattle.ls_machine.specs.declared.event.Event.TheVariants.{Returned};
-    ghost use Rattle.ls_history.specs.declared.happened.Happened.TheVariants.{Worked};
+    ghost use Rattle.ls_history.specs.declared.history_entry.HistoryEntry.TheVariants.{Worked};
 
     ghost ask = { λ ticket. Worked (Returned ticket) };
 
@@ -91,10 +84,10 @@ impl Plain<u64, Happened, u64> for ReturnsJob {
 /// The entry of a job that is brought back when it has run, by its ticket and whether memory was refused in it.
 pub struct BringsRun;
 
-impl Plain<(u64, bool), Happened, u64> for BringsRun {
+impl Plain<(u64, bool), HistoryEntry, u64> for BringsRun {
     ghost use Rattle.std.specs.Prelude.{None};
     ghost use Rattle.ls_machine.specs.declared.event.Event.TheVariants.{Finished};
-    ghost use Rattle.ls_history.specs.declared.happened.Happened.TheVariants.{Worked};
+    ghost use Rattle.ls_history.specs.declared.history_entry.HistoryEntry.TheVariants.{Worked};
 
     ghost ask = { λ run. Worked (Finished run.0 run.1) };
 
@@ -102,26 +95,13 @@ impl Plain<(u64, bool), Happened, u64> for BringsRun {
 }
 
 /// The entry of a board that is asked to end.
-pub struct Stops;
+pub struct StopsBoard;
 
-impl Plain<Stop, Happened, u64> for Stops {
+impl Plain<Stop, HistoryEntry, u64> for StopsBoard {
     ghost use Rattle.std.specs.Prelude.{None};
-    ghost use Rattle.ls_history.specs.declared.happened.Happened.TheVariants.{Stopped};
+    ghost use Rattle.ls_history.specs.declared.history_entry.HistoryEntry.TheVariants.{Stopped};
 
     ghost ask = { λ stop. Stopped stop };
 
     ghost state = { λ stop. None };
-}
-
-/// Adds a client's event with its answer or its refusal to the history.
-pub fn add_heard<K: Hearing, C: BookName>(
-    rt: &impl Wait,
-    book: &HistoryBook<C>,
-    front: &mut Front<C>,
-    reply: &Result<ClientAnswer, DeskFault>,
-)
-    requires { MayHappen (replay beginning front.old) (Heard K.event reply.now) }
-    ensures { front.new ≡ front.old ++ Heard K.event reply.now ∷ [] }
-{
-    front.add::<Result<ClientAnswer, DeskFault>, Hears<K>>(rt, book, reply);
 }

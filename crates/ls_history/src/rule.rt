@@ -1,11 +1,11 @@
 //! The rule of the shared word, and the step that it knows.
-use crate::happened::Happened;
+use crate::history_entry::HistoryEntry;
 use logbook::{Gain, Play, Rule};
 
 /// The word is the length of the history, which is legal.
 pub struct Law;
 
-impl Rule<Happened, u64> for Law {
+impl Rule<HistoryEntry, u64> for Law {
     ghost use Rattle.std.specs.Prelude.{[]};
     ghost use base.Fml.{ftrue};
     ghost use Rattle.ls_history.specs.own.Rules.{IsKept};
@@ -26,7 +26,7 @@ impl Rule<Happened, u64> for Law {
 /// Callers trade nothing.
 pub struct Nothing;
 
-impl Gain<Happened, u64> for Nothing {
+impl Gain<HistoryEntry, u64> for Nothing {
     ghost use base.Fml.{ftrue};
 
     ghost after = { λ names about answer. ftrue };
@@ -35,7 +35,7 @@ impl Gain<Happened, u64> for Nothing {
 /// A step that adds an entry.
 pub struct Add;
 
-impl Play<Happened, u64> for Add {
+impl Play<HistoryEntry, u64> for Add {
     ghost use Rattle.ls_history.specs.own.Rules.{Adds};
 
     ghost then = { Adds };

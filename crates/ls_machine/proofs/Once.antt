@@ -266,6 +266,12 @@ no_body_by false t is h = refl
 no_body : (t : ℕ) → 0 < t → ◌≡◌ {A = ℕ} (cond (0 == t) 1 0) 0
 no_body t h = no_body_by (0 == t) t refl h
 
+-- an event that gives no ticket and lets no job go
+stays : (s : State) (e : Event) (t : ℕ) → (step s e).next_ticket ≡ s.next_ticket → stood (step s e) t + sent_of e t ≡ stood s t → Moves s e t
+stays s e t next sum =
+    let z = cond_none (s.next_ticket == t) in
+    record { given = 0; gone = 0; one = omega arith; next = omega arith; sum = omega arith; few = omega arith; let_go = λ h k. absurd (omega arith) }
+
 moves : (s : State) (e : Event) (t : ℕ) → 0 < t → IsPossible s e → Moves s e t
 unfolding step IsPossible stood sent_of
 moves s (Opened uri label text encoding version) t some possible =
@@ -296,52 +302,18 @@ moves s (Asked id uri question links ticket) t some possible =
     let p = asks s id (document_of uri s.documents) question links t in
     record { given = p.given; gone = 0; one = p.one; next = p.next; sum = (let q = p.sum in omega arith); few = omega arith; let_go = λ h k. absurd (omega arith) }
 moves s (Cancelled id found) t some possible =
-    record {
-      given = 0;
-      gone = 0;
-      one = omega arith;
-      next = omega arith;
-      sum = (let z = cond_none (s.next_ticket == t) in
-          let w = without_count (asks_with id) t s.waiting in
-          let a = count_append (is_told_of t) s.unsent (told_if_found request_cancelled (find (asks_with id) s.waiting)) in
-          let c = told_count id t (find (asks_with id) s.waiting) (λ w h. found_passes (asks_with id) s.waiting w h) in
-          omega arith);
-      few = omega arith;
-      let_go = λ h k. absurd (omega arith);
-    }
+    let w = without_count (asks_with id) t s.waiting in
+    let a = count_append (is_told_of t) s.unsent (told_if_found request_cancelled (find (asks_with id) s.waiting)) in
+    let c = told_count id t (find (asks_with id) s.waiting) (λ w h. found_passes (asks_with id) s.waiting w h) in
+    stays s _ t refl (omega arith)
 moves s (Said body) t some possible =
-    record {
-      given = 0;
-      gone = 0;
-      one = omega arith;
-      next = omega arith;
-      sum = (let z = cond_none (s.next_ticket == t) in
-          let a = count_last (is_told_of t) s.unsent (Body body) in
-          let b = no_body t some in
-          omega arith);
-      few = omega arith;
-      let_go = λ h k. absurd (omega arith);
-    }
+    let a = count_last (is_told_of t) s.unsent (Body body) in
+    let b = no_body t some in
+    stays s _ t refl (omega arith)
 moves s (Took worker) t some possible =
-    record {
-      given = 0;
-      gone = 0;
-      one = omega arith;
-      next = omega arith;
-      sum = (let z = cond_none (s.next_ticket == t) in let c = on_count is_queued true t s.waiting in omega arith);
-      few = omega arith;
-      let_go = λ h k. absurd (omega arith);
-    }
+    let c = on_count is_queued true t s.waiting in stays s _ t refl (omega arith)
 moves s (Returned ticket) t some possible =
-    record {
-      given = 0;
-      gone = 0;
-      one = omega arith;
-      next = omega arith;
-      sum = (let z = cond_none (s.next_ticket == t) in let c = on_count (is_held ticket) false t s.waiting in omega arith);
-      few = omega arith;
-      let_go = λ h k. absurd (omega arith);
-    }
+    let c = on_count (is_held ticket) false t s.waiting in stays s _ t refl (omega arith)
 moves s (Finished ticket failed) t some possible =
     let o = find (is_held ticket) s.waiting in
     record {
@@ -358,18 +330,9 @@ moves s (Finished ticket failed) t some possible =
       let_go = λ h k. let g = run_go failed ticket t s.waiting o refl h k in (g.0, g.1, g.2, (g.3, g.4));
     }
 moves s (Sent ticket) t some possible =
-    record {
-      given = 0;
-      gone = 0;
-      one = omega arith;
-      next = omega arith;
-      sum = (let z = cond_none (s.next_ticket == t) in
-          let r = rest_count s.unsent t ticket possible in
-          let c = count_cons (λ sent. sent == t) ticket [] in
-          omega arith);
-      few = omega arith;
-      let_go = λ h k. absurd (omega arith);
-    }
+    let r = rest_count s.unsent t ticket possible in
+    let c = count_cons (λ sent. sent == t) ticket [] in
+    stays s _ t refl (omega arith)
 
 -- ---- one event more
 

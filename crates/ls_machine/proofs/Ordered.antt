@@ -1,6 +1,6 @@
 -- Tickets and ids of waiting jobs, and the texts that they are for.
 use Rattle.std.proofs.Common.{◌≡◌, ℕ, ◌+◌, ◌≤◌, Bool, true, false, cond, List, [], ◌∷◌, ◌++◌, refl, sym, ap, ◌∙◌, subst, arith, append_assoc, append-nil}
-use Rattle.std.specs.Prelude.{ℤ, Option, Some, None, find, filter, is_some, not, bytes_eq}
+use Rattle.std.specs.Prelude.{ℤ, Option, Some, None, find, filter, not, bytes_eq}
 use Rattle.std.specs.Cmp.{signed_Decides}
 use Rattle.std.proofs.lemmas.Slice.Eq.{bytes_eq-Decides}
 use Rattle.std.proofs.lemmas.Option.{same_Some}

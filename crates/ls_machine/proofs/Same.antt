@@ -1,5 +1,5 @@
 -- Two values are the same exactly where their test says so.
-use Rattle.std.proofs.Common.{◌≡◌, Bool, true, false, refl, ap, subst}
+use Rattle.std.proofs.Common.{◌≡◌, true, refl, ap, subst}
 use Rattle.std.specs.Prelude.{◌↔◌, ◌&&◌, ◌==◌, bytes_eq, Some}
 use Rattle.std.specs.Bool.{beq}
 use Rattle.std.specs.Cmp.{booleans_Decides}

@@ -1,6 +1,6 @@
 -- A job that has run was taken.
 use Rattle.std.proofs.Common.{◌≡◌, ℕ, Bool, true, false, List, [], ◌∷◌, ◌++◌, refl}
-use Rattle.std.specs.Prelude.{ℤ, Option, Some, None, find, ◌&&◌, ◌==◌, cond}
+use Rattle.std.specs.Prelude.{ℤ, Option, Some, None, find, ◌==◌, cond}
 use Rattle.std.proofs.lemmas.Bool.{and_parts}
 use Rattle.ls_rpc.specs.declared.message.Id.{Id}
 use Rattle.ls_text.specs.Positions.{Measured}

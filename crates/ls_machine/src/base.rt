@@ -50,16 +50,11 @@ impl Counts {
     {
         let mut counts = self;
         match event {
-            Event::Opened { .. }
-            | Event::Changed { .. }
-            | Event::Closed { .. }
-            | Event::Asked { .. }
-            | Event::Cancelled { .. }
-            | Event::Said { .. } => counts.client += 1,
             Event::Took { .. } => counts.took += 1,
             Event::Returned { .. } => counts.returned += 1,
             Event::Finished { .. } => counts.finished += 1,
             Event::Sent { .. } => counts.sent += 1,
+            _ => counts.client += 1,
         }
         counts
     }

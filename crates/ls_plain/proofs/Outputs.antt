@@ -1,5 +1,5 @@
 -- Each input has an output, and where no memory is refused in a job no two.
-use Rattle.std.proofs.Common.{◌≡◌, ℕ, List, [], ◌++◌, Option, Some, true, false, refl, sym, ap, subst, ◌∙◌, append_assoc}
+use Rattle.std.proofs.Common.{◌≡◌, ℕ, List, [], ◌++◌, Option, true, false, refl, sym, ap, subst, ◌∙◌, append_assoc}
 use Rattle.std.specs.Prelude.{Result, Ok, Err}
 use Rattle.ls_frame.specs.Frames.{Stream}
 use Rattle.ls_frame.proofs.Exist.{some_stream}
@@ -10,8 +10,8 @@ use Rattle.ls_steps.specs.Plain.{Says}
 use Rattle.ls_steps.proofs.OneSession.{one_session}
 use Rattle.ls_steps.proofs.SomeSession.{some_session}
 use Rattle.ls_steps.proofs.Settled.{goes_on, says_more, weaker}
-use Rattle.ls_plain.specs.Runs.{IsOutput, RunIs, ServedIs, last_status}
-use Rattle.ls_devices.specs.Devices.{AppendsFront}
+use Rattle.ls_plain.specs.Runs.{IsOutput, RunIs, RunsToOutput, ServedIs, last_status}
+use Rattle.ls_devices.specs.Devices.{AppendsPrefix}
 use Rattle.ls_devices.specs.declared.fault.ServeFault.{ServeFault}
 use Rattle.ls_devices.specs.declared.fault.ServeFault.TheVariants.{Read, Write, Strayed, Memory}
 use Rattle.std.proofs.lemmas.List.{append-nil}
@@ -52,15 +52,12 @@ completed answered left contents after bytes e s =
       said = subst (λ l. Says true begun l rest.0 (bytes ++ rest.1)) (sym e) (says_more true begun after rest.0 answered left bytes rest.1 s (weaker after rest.0 left rest.1 rest.2));
     }
 
--- what is written of a front is a front of the whole
-front_more : (old new : Option (List ℕ)) (bytes more : List ℕ) → AppendsFront old new bytes → AppendsFront old new (bytes ++ more)
-front_more old new bytes more f = (f.0, f.1 ++ more, (ap (λ l. l ++ more) f.2.0 ∙ append_assoc f.0 f.1 more, f.2.1))
-
-abbrev Output : List ℕ → Option (List ℕ) → Option (List ℕ) → Result Status ServeFault → Option (List ℕ) → Type 0
-Output input left old r new = (status : Status) × (bytes : List ℕ) × IsOutput true input status bytes × RunIs input status bytes left old r new
+-- what is written of a prefix is a prefix of the whole
+prefix_more : (old new : Option (List ℕ)) (bytes more : List ℕ) → AppendsPrefix old new bytes → AppendsPrefix old new (bytes ++ more)
+prefix_more old new bytes more f = (f.0, f.1 ++ more, (ap (λ l. l ++ more) f.2.0 ∙ append_assoc f.0 f.1 more, f.2.1))
 
 run_by : (input rest : List ℕ) (contents : List (List ℕ)) (left old : Option (List ℕ)) (r : Result Status ServeFault) (new : Option (List ℕ)) → Stream input contents rest
-    → RunsOn input contents rest left old r new → Output input left old r new
+    → RunsOn input contents rest left old r new → (status : Status) × (bytes : List ℕ) × IsOutput true input status bytes × RunIs input status bytes left old r new
 run_by input rest contents left old (Ok status) new s h =
     let w = h.1.1 in (status, w.bytes, (contents, rest, h.0, (s, w.said, h.1.0)), (refl, w.written))
 run_by input rest contents left old (Err Read) new s h =
@@ -73,15 +70,15 @@ run_by input rest contents left old (Err Read) new s h =
     )
 run_by input rest contents left old (Err Write) new s h =
     let c = completed h.answered h.left contents h.after h.bytes h.contents_are h.said in
-    (last_status c.after rest, h.bytes ++ c.later, (contents, rest, c.after, (s, c.said, refl)), front_more old new h.bytes c.later h.written)
+    (last_status c.after rest, h.bytes ++ c.later, (contents, rest, c.after, (s, c.said, refl)), prefix_more old new h.bytes c.later h.written)
 run_by input rest contents left old (Err Strayed) new s h = absurd h
 run_by input rest contents left old (Err Memory) new s h =
     let c = completed h.answered h.left contents h.after h.bytes h.contents_are h.said in
-    (last_status c.after rest, h.bytes ++ c.later, (contents, rest, c.after, (s, c.said, refl)), front_more old new h.bytes c.later h.written)
+    (last_status c.after rest, h.bytes ++ c.later, (contents, rest, c.after, (s, c.said, refl)), prefix_more old new h.bytes c.later h.written)
 
 -- A run on an input that is known, and an output of this input.
 pub run_told : (told left : Option (List ℕ)) (spent failed : Type 0) (old : Option (List ℕ)) (r : Result Status ServeFault) (new : Option (List ℕ)) → ServedIs told left spent failed old r new
-    → (input : List ℕ) → told ≡ Some input → (status : Status) × (bytes : List ℕ) × IsOutput true input status bytes × RunIs input status bytes left old r new
+    → RunsToOutput told left old r new
 run_told told left spent failed old r new h input e =
     let s = some_stream input in
     run_by input s.1 s.0 left old r new s.2 (whole_told told left spent failed old r new h input s.1 s.0 e s.2)

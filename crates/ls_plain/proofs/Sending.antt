@@ -6,8 +6,8 @@ use Rattle.ls_steps.specs.Runs.{Going, IsSent, Runs, Steps, send, state_at}
 use Rattle.ls_steps.specs.Plain.{CanSendAll, Replies, times}
 use Rattle.ls_steps.proofs.ByActs.{runs_append}
 use Rattle.ls_steps.proofs.Serving.{OneSent, can_go_on, left_is, replies_more, send_runs}
-use Rattle.ls_plain.specs.Runs.{SendsIs, SentFront, SomeSent}
-use Rattle.ls_devices.specs.Devices.{AppendsFront}
+use Rattle.ls_plain.specs.own.Sending.{SendsIs, SentPrefix, SomeSent}
+use Rattle.ls_devices.specs.Devices.{AppendsPrefix}
 use Rattle.ls_devices.specs.declared.fault.ServeFault.{ServeFault}
 use Rattle.ls_devices.specs.declared.fault.ServeFault.TheVariants.{Memory, Write}
 use Rattle.std.proofs.lemmas.List.{append-nil}
@@ -95,17 +95,17 @@ pub sent_before : (first now next : Going) (a b : Option (List ℕ)) (r : Result
 sent_before first now next a b r fault is memory s = subst (λ x. SendsIs first a x next b) (sym (is ∙ ap Err memory)) (now, s)
 
 -- the next reply was written in part
-pub sent_part : (first next : Going) (a b : Option (List ℕ)) (r : Result Unit ServeFault) (fault : ServeFault) → r ≡ Err fault → fault ≡ Write → SentFront first next a b
+pub sent_part : (first next : Going) (a b : Option (List ℕ)) (r : Result Unit ServeFault) (fault : ServeFault) → r ≡ Err fault → fault ≡ Write → SentPrefix first next a b
     → SendsIs first a r next b
 sent_part first next a b r fault is write s = subst (λ x. SendsIs first a x next b) (sym (is ∙ ap Err write)) s
 
--- ---- a front of what has left is a front of all that is kept
+-- ---- a prefix of what has left is a prefix of all that is kept
 
--- A front of all that is kept is written.
-abbrev pub FrontOfAll : Going → Option (List ℕ) → Option (List ℕ) → Type 0
-FrontOfAll state a b = (replies : ℕ) × (left : Going) × (bytes : List ℕ) × Replies true replies state left bytes × AppendsFront a b bytes
+-- A prefix of all that is kept is written.
+abbrev pub PrefixOfAll : Going → Option (List ℕ) → Option (List ℕ) → Type 0
+PrefixOfAll state a b = (replies : ℕ) × (left : Going) × (bytes : List ℕ) × Replies true replies state left bytes × AppendsPrefix a b bytes
 
-pub some_of_all : (state now : Going) (a b : Option (List ℕ)) → CanSendAll state → SomeSent state now a b → FrontOfAll state a b
+pub some_of_all : (state now : Going) (a b : Option (List ℕ)) → CanSendAll state → SomeSent state now a b → PrefixOfAll state a b
 some_of_all state now a b can s =
     let on = onward s.replies state now s.bytes s.sent can in
     let rest = on.can in
@@ -118,10 +118,10 @@ parts bytes frame part more later e =
     ∙ (ap (λ l. bytes ++ (l ++ later)) e
     ∙ (ap (λ l. bytes ++ l) (append_assoc part more later) ∙ sym (append_assoc bytes part (more ++ later))))
 
-pub front_of_all : (state after : Going) (a b : Option (List ℕ)) → CanSendAll state → SentFront state after a b → FrontOfAll state a b
-front_of_all state after a b can s =
+pub prefix_of_all : (state after : Going) (a b : Option (List ℕ)) → CanSendAll state → SentPrefix state after a b → PrefixOfAll state a b
+prefix_of_all state after a b can s =
     let x = s.earlier in
-    let f = s.front in
+    let f = s.prefix in
     let on = onward (suc x.replies) state after (x.bytes ++ s.frame) (next_sent state s.before after x.replies x.bytes s.frame x.sent s.last) can in
     let rest = on.can in
     let all = on.all rest.0 rest.1 rest.2 rest.3 in (

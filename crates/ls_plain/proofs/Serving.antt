@@ -5,15 +5,16 @@ use Rattle.ls_steps.specs.Runs.{Going, begun}
 use Rattle.ls_steps.specs.Plain.{IsAtRest}
 use Rattle.ls_steps.proofs.Settled.{says_more, settled_begun, settled_said}
 use Rattle.ls_session.specs.declared.turn.Status.{Status}
-use Rattle.ls_devices.specs.Reading.{BreaksIn, HearsAll, HearsFront, HearsInput, HearsOn, InputIs}
+use Rattle.ls_devices.specs.Reading.{BreaksIn, HearsAll, HearsPrefix, HearsInput, HearsOn, InputIs}
 use Rattle.ls_devices.specs.declared.reading.ReaderEnd.{ReaderEnd}
 use Rattle.ls_devices.specs.declared.reading.ReaderEnd.TheVariants.{Broken, Ended, Failed}
 use Rattle.ls_devices.specs.declared.fault.ServeFault.{ServeFault}
 use Rattle.ls_devices.specs.declared.fault.ServeFault.TheVariants.{Read, Write, Strayed, Memory}
 use Rattle.ls_devices.proofs.Known.{or_true}
 use Rattle.ls_devices.proofs.Listening.{input_shows}
-use Rattle.ls_plain.specs.Runs.{Answers, AnswersIs, AnswersPart, HasAnswered, Place, ServedIs, WasServed, WrittenFront, is_write}
-use Rattle.ls_plain.proofs.Writing.{answers_more, answers_stay, front_append, front_longer, front_none, says_none, written_none}
+use Rattle.ls_plain.specs.Runs.{HasAnswered, ServedIs, WrittenPrefix, is_write}
+use Rattle.ls_plain.specs.own.Answering.{Answers, AnswersIs, AnswersPart, Standing, WasServed}
+use Rattle.ls_plain.proofs.Writing.{answers_more, answers_stay, prefix_append, prefix_longer, prefix_none, says_none, written_none}
 
 -- a session that has come by messages has nothing left to run or to send
 pub settled_by : (state : Going) → WasServed state → IsAtRest state
@@ -36,30 +37,30 @@ ready_next state now body (Err fault) a b w h = tt
 
 -- ---- messages that are answered one after the other
 
-record Answered (contents : List (List ℕ)) (a b : Place) (exit : Option Status) : Type 0 where
+record Answered (contents : List (List ℕ)) (a b : Standing) (exit : Option Status) : Type 0 where
   answered : AnswersIs a.talk contents a.written (Ok exit) b.talk b.written
   failed : b.has_failed ≡ a.has_failed
   holds : a.holds ≡ false → b.holds ≡ false
 
-nothing_answered : (a b : Place) → a.talk.status ≡ None → b ≡ a → Answered [] a b None
-nothing_answered a b fresh same = subst (λ (p : Place). Answered [] a p None) (sym same) (record { answered = (fresh, written_none a.talk a.written); failed = refl; holds = λ p. p })
+nothing_answered : (a b : Standing) → a.talk.status ≡ None → b ≡ a → Answered [] a b None
+nothing_answered a b fresh same = subst (λ (p : Standing). Answered [] a p None) (sym same) (record { answered = (fresh, written_none a.talk a.written); failed = refl; holds = λ p. p })
 
-one_answered : (body : List ℕ) (a b : Place) (exit : Option Status) → Answers body a exit b → Answered (body ∷ []) a b exit
+one_answered : (body : List ℕ) (a b : Standing) (exit : Option Status) → Answers body a exit b → Answered (body ∷ []) a b exit
 one_answered body a b exit h = record { answered = h.0; failed = h.1; holds = h.2 }
 
-answered_behind : (xs ys : List (List ℕ)) (a b c : Place) (exit : Option Status) → Answered xs a b None → Answered ys b c exit → Answered (xs ++ ys) a c exit
+answered_behind : (xs ys : List (List ℕ)) (a b c : Standing) (exit : Option Status) → Answered xs a b None → Answered ys b c exit → Answered (xs ++ ys) a c exit
 answered_behind xs ys a b c exit h k = record {
   answered = answers_more a.talk b.talk xs ys (Ok exit) c.talk a.written b.written c.written h.answered.1 k.answered;
   failed = k.failed ∙ h.failed;
   holds = λ p. k.holds (h.holds p);
 }
 
-on_answered : (bodies : List (List ℕ)) (a b : Place) → a.talk.status ≡ None → HearsOn Answers bodies a b → Answered bodies a b None
+on_answered : (bodies : List (List ℕ)) (a b : Standing) → a.talk.status ≡ None → HearsOn Answers bodies a b → Answered bodies a b None
 on_answered [] a b fresh h = nothing_answered a b fresh h
 on_answered (body ∷ bodies) a b fresh h =
     let first = one_answered body a h.0 None h.1.0 in answered_behind (body ∷ []) bodies a h.0 b None first (on_answered bodies h.0 b first.answered.0 h.1.1)
 
-all_answered : (bodies : List (List ℕ)) (a b : Place) (exit : Option Status) → a.talk.status ≡ None → IsAtRest a.talk → HearsAll Answers bodies a exit b → Answered bodies a b exit
+all_answered : (bodies : List (List ℕ)) (a b : Standing) (exit : Option Status) → a.talk.status ≡ None → IsAtRest a.talk → HearsAll Answers bodies a exit b → Answered bodies a b exit
 all_answered bodies a b None fresh rest h = on_answered bodies a b fresh h
 all_answered bodies a b (Some status) fresh rest h =
     let last = answered_behind h.0 (h.1 ∷ []) a h.3 b (Some status) (on_answered h.0 a h.3 fresh h.4.1) (one_answered h.1 h.3 b (Some status) h.4.2) in
@@ -71,8 +72,8 @@ all_answered bodies a b (Some status) fresh rest h =
 
 -- ---- and broken off
 
-record Stopped (contents : List (List ℕ)) (a b : Place) (fault : ServeFault) : Type 0 where
-  front : WrittenFront a.talk contents a.written b.written
+record Stopped (contents : List (List ℕ)) (a b : Standing) (fault : ServeFault) : Type 0 where
+  prefix : WrittenPrefix a.talk contents a.written b.written
   failed : b.has_failed ≡ (a.has_failed || is_write {A = Option Status} (Err fault))
   holds : is_write {A = Option Status} (Err fault) ≡ false → a.holds ≡ false → b.holds ≡ false
   fault_is : (fault ≡ Write) ⊎ (fault ≡ Memory)
@@ -81,26 +82,26 @@ or_none : (b : Bool) → b ≡ (b || false)
 or_none true = refl
 or_none false = refl
 
-part_answered : (body : List ℕ) (bodies : List (List ℕ)) (a b : Place) (fault : ServeFault) → AnswersPart body a fault b → Stopped (body ∷ bodies) a b fault
+part_answered : (body : List ℕ) (bodies : List (List ℕ)) (a b : Standing) (fault : ServeFault) → AnswersPart body a fault b → Stopped (body ∷ bodies) a b fault
 part_answered body bodies a b Read h = absurd h.0
-part_answered body bodies a b Write h = record { front = front_longer a.talk (body ∷ []) bodies a.written b.written h.0; failed = h.1; holds = h.2; fault_is = inl refl }
+part_answered body bodies a b Write h = record { prefix = prefix_longer a.talk (body ∷ []) bodies a.written b.written h.0; failed = h.1; holds = h.2; fault_is = inl refl }
 part_answered body bodies a b Strayed h = absurd h.0
-part_answered body bodies a b Memory h = record { front = front_longer a.talk (body ∷ []) bodies a.written b.written h.0; failed = h.1; holds = h.2; fault_is = inr refl }
+part_answered body bodies a b Memory h = record { prefix = prefix_longer a.talk (body ∷ []) bodies a.written b.written h.0; failed = h.1; holds = h.2; fault_is = inr refl }
 
-nothing_more : (a b : Place) → b ≡ a → Stopped [] a b Memory
+nothing_more : (a b : Standing) → b ≡ a → Stopped [] a b Memory
 nothing_more a b same =
-    subst (λ (p : Place). Stopped [] a p Memory) (sym same) (record { front = front_none a.talk [] a.written; failed = or_none a.has_failed; holds = λ w p. p; fault_is = inr refl })
+    subst (λ (p : Standing). Stopped [] a p Memory) (sym same) (record { prefix = prefix_none a.talk [] a.written; failed = or_none a.has_failed; holds = λ w p. p; fault_is = inr refl })
 
-stops_in : (bodies : List (List ℕ)) (a b : Place) (fault : ServeFault) → BreaksIn AnswersPart (λ f. f ≡ Memory) fault bodies a b → Stopped bodies a b fault
+stops_in : (bodies : List (List ℕ)) (a b : Standing) (fault : ServeFault) → BreaksIn AnswersPart (λ f. f ≡ Memory) fault bodies a b → Stopped bodies a b fault
 stops_in [] a b fault h = subst (λ f. Stopped [] a b f) (sym h.0) (nothing_more a b h.1)
 stops_in (body ∷ bodies) a b fault h = part_answered body bodies a b fault h
 
-front_answered : (bodies : List (List ℕ)) (a b : Place) (fault : ServeFault) → a.talk.status ≡ None → HearsFront Answers AnswersPart (λ f. f ≡ Memory) fault bodies a b → Stopped bodies a b fault
-front_answered bodies a b fault fresh h =
+prefix_answered : (bodies : List (List ℕ)) (a b : Standing) (fault : ServeFault) → a.talk.status ≡ None → HearsPrefix Answers AnswersPart (λ f. f ≡ Memory) fault bodies a b → Stopped bodies a b fault
+prefix_answered bodies a b fault fresh h =
     let before = on_answered h.0 a h.2 fresh h.3.1 in
     let rest = stops_in h.1 h.2 b fault h.3.2 in
     subst (λ l. Stopped l a b fault) (sym h.3.0) (record {
-      front = front_append a.talk h.2.talk h.0 h.1 a.written h.2.written b.written before.answered.1 rest.front;
+      prefix = prefix_append a.talk h.2.talk h.0 h.1 a.written h.2.written b.written before.answered.1 rest.prefix;
       failed = rest.failed ∙ ap (λ x. x || is_write {A = Option Status} (Err fault)) before.failed;
       holds = λ w p. rest.holds w (before.holds p);
       fault_is = rest.fault_is;
@@ -114,12 +115,12 @@ caused true reads most e = inl refl
 caused false reads most e = inr (eqb-true (reads + 1) most e)
 
 -- What a run has read and written, and how it leaves the sink.
-pub record Served (input left : Option (List ℕ)) (spent failed : Type 0) (a b : Place) (result : Result Status ServeFault) : Type 0 where
+pub record RunLeaves (input left : Option (List ℕ)) (spent failed : Type 0) (a b : Standing) (result : Result Status ServeFault) : Type 0 where
   pub served : ServedIs input left spent failed a.written result b.written
   pub good : OnOk result (b.has_failed ≡ a.has_failed)
   pub flushed : is_write result ≡ false → a.holds ≡ false → b.holds ≡ false
 
-module _ (input left : Option (List ℕ)) (spent failed : Type 0) (a b : Place) (begins : a.talk ≡ begun) where
+module _ (input left : Option (List ℕ)) (spent failed : Type 0) (a b : Standing) (begins : a.talk ≡ begun) where
   abbrev IsHeard : ReaderEnd ServeFault → Type 0
   IsHeard end = HearsInput Answers AnswersPart (λ f. f ≡ Memory) input left a end b
 
@@ -129,35 +130,35 @@ module _ (input left : Option (List ℕ)) (spent failed : Type 0) (a b : Place) 
   all : (contents : List (List ℕ)) (exit : Option Status) → HearsAll Answers contents a exit b → Answered contents a b exit
   all contents exit h = all_answered contents a b exit is_open (subst IsAtRest (sym begins) settled_begun) h
 
-  front : (contents : List (List ℕ)) (fault : ServeFault) → HearsFront Answers AnswersPart (λ f. f ≡ Memory) fault contents a b → Stopped contents a b fault
-  front contents fault h = front_answered contents a b fault is_open h
+  prefix : (contents : List (List ℕ)) (fault : ServeFault) → HearsPrefix Answers AnswersPart (λ f. f ≡ Memory) fault contents a b → Stopped contents a b fault
+  prefix contents fault h = prefix_answered contents a b fault is_open h
 
   answered_so : (end : ReaderEnd ServeFault) → IsHeard end
-      → InputIs (λ c. HasAnswered a.written b.written c None) (HasAnswered a.written b.written) (λ fault c. WrittenFront begun c a.written b.written) input left end
+      → InputIs (λ c. HasAnswered a.written b.written c None) (HasAnswered a.written b.written) (λ fault c. WrittenPrefix begun c a.written b.written) input left end
   answered_so end h =
       input_shows (λ c. HearsOn Answers c a b) (λ c. HasAnswered a.written b.written c None) (λ c exit. HearsAll Answers c a exit b) (HasAnswered a.written b.written)
-      (λ fault c. HearsFront Answers AnswersPart (λ f. f ≡ Memory) fault c a b) (λ fault c. WrittenFront begun c a.written b.written) input left end
+      (λ fault c. HearsPrefix Answers AnswersPart (λ f. f ≡ Memory) fault c a b) (λ fault c. WrittenPrefix begun c a.written b.written) input left end
       (λ c x. (b.talk, subst (λ (g : Going). AnswersIs g c a.written (Ok None) b.talk b.written) begins (all c None x).answered))
       (λ c exit x. (b.talk, subst (λ (g : Going). AnswersIs g c a.written (Ok exit) b.talk b.written) begins (all c exit x).answered))
-      (λ fault c e x. subst (λ (g : Going). WrittenFront g c a.written b.written) begins (front c fault x).front) h.heard
+      (λ fault c e x. subst (λ (g : Going). WrittenPrefix g c a.written b.written) begins (prefix c fault x).prefix) h.heard
 
   -- it has ended
-  pub run_ended : (status : Status) → IsHeard (Ended status) → Served input left spent failed a b (Ok status)
+  pub run_ended : (status : Status) → IsHeard (Ended status) → RunLeaves input left spent failed a b (Ok status)
   run_ended status h =
       let leaves : (b.has_failed ≡ a.has_failed) × (a.holds ≡ false → b.holds ≡ false)
       = ⊎_elim (λ g. let k = all g.contents g.exit g.made in (k.failed, k.holds)) (λ g. let k = all g.1.1.contents None g.1.1.made in (k.failed, k.holds)) h.heard.2 in
       record { served = (tt, answered_so (Ended status) h); good = leaves.0; flushed = λ w. leaves.1 }
 
   -- a read failed
-  pub run_unread : IsHeard Failed → spent → Served input left spent failed a b (Err Read)
+  pub run_unread : IsHeard Failed → spent → RunLeaves input left spent failed a b (Err Read)
   run_unread h s = record { served = (s, answered_so Failed h); good = tt; flushed = λ w. (all h.heard.3.contents None h.heard.3.made).holds }
 
-  stopped_by : (fault : ServeFault) (contents : List (List ℕ)) → Stopped contents a b fault → IsHeard (Broken fault) → (b.has_failed ≡ true → failed) → Served input left spent failed a b (Err fault)
+  stopped_by : (fault : ServeFault) (contents : List (List ℕ)) → Stopped contents a b fault → IsHeard (Broken fault) → (b.has_failed ≡ true → failed) → RunLeaves input left spent failed a b (Err fault)
   stopped_by Read contents k h f = absurd (⊎_elim (λ e. absurd (cc)) (λ e. absurd (cc)) k.fault_is)
   stopped_by Write contents k h f = record { served = (f (or_true b.has_failed a.has_failed k.failed), answered_so (Broken Write) h); good = tt; flushed = λ w. absurd (cc) }
   stopped_by Strayed contents k h f = absurd (⊎_elim (λ e. absurd (cc)) (λ e. absurd (cc)) k.fault_is)
   stopped_by Memory contents k h f = record { served = (tt, answered_so (Broken Memory) h); good = tt; flushed = λ w. k.holds refl }
 
   -- it broke off
-  pub run_stopped : (fault : ServeFault) → IsHeard (Broken fault) → (b.has_failed ≡ true → failed) → Served input left spent failed a b (Err fault)
-  run_stopped fault h f = stopped_by fault h.heard.2.contents (front h.heard.2.contents fault h.heard.2.made) h f
+  pub run_stopped : (fault : ServeFault) → IsHeard (Broken fault) → (b.has_failed ≡ true → failed) → RunLeaves input left spent failed a b (Err fault)
+  run_stopped fault h f = stopped_by fault h.heard.2.contents (prefix h.heard.2.contents fault h.heard.2.made) h f

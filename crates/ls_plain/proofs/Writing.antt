@@ -1,20 +1,18 @@
 -- What is written on contents.
-use Rattle.std.proofs.Common.{ℕ, ◌+◌, ◌<◌, length, get_or, ◌≡◌, List, [], ◌∷◌, ◌++◌, take, drop, Option, None, Some, true, refl, sym, ◌∙◌, ap, subst, append_assoc}
-use Rattle.std.specs.Prelude.{is_some, Vec, Result, Ok, Err}
-use Rattle.std.specs.declared.alloc.Global.{Global}
-use Rattle.std.proofs.lemmas.List.{append-nil, take-append-drop, map-append}
-use Rattle.ls_frame.specs.Feeds.{contents_of}
+use Rattle.std.proofs.Common.{ℕ, ◌≡◌, List, [], ◌∷◌, ◌++◌, Option, None, Some, true, refl, sym, ◌∙◌, ap, subst, append_assoc}
+use Rattle.std.specs.Prelude.{is_some, Result, Ok, Err}
 use Rattle.ls_steps.specs.Runs.{Going}
 use Rattle.ls_steps.specs.Plain.{CanSendAll, HearsAndRuns, IsAtRest, Says, Serves}
 use Rattle.ls_steps.proofs.Settled.{says_more, says_one, says_stays}
-use Rattle.ls_plain.specs.Runs.{AnswersIs, SendsIs, Written, WrittenFront}
-use Rattle.ls_devices.specs.Devices.{AppendsFront}
+use Rattle.ls_plain.specs.Runs.{Written, WrittenPrefix}
+use Rattle.ls_plain.specs.own.Answering.{AnswersIs}
+use Rattle.ls_plain.specs.own.Sending.{SendsIs}
+use Rattle.ls_devices.specs.Devices.{AppendsPrefix}
 use Rattle.ls_devices.specs.declared.fault.ServeFault.{ServeFault}
 use Rattle.ls_devices.specs.declared.fault.ServeFault.TheVariants.{Read, Write, Strayed, Memory}
 use Rattle.ls_session.specs.declared.turn.Status.{Status}
-use Rattle.ls_devices.proofs.Known.{appends_appends, appends_none, as_front}
-use Rattle.ls_devices.proofs.Pieces.{take_next}
-use Rattle.ls_plain.proofs.Sending.{FrontOfAll, front_of_all, some_of_all}
+use Rattle.ls_devices.proofs.Known.{appends_appends, appends_none, as_prefix}
+use Rattle.ls_plain.proofs.Sending.{PrefixOfAll, prefix_of_all, some_of_all}
 
 pub says_none : (state : Going) → Says true state [] state []
 unfolding Says
@@ -37,8 +35,8 @@ pub written_stays : (state after : Going) (xs ys : List (List ℕ)) (status : St
 written_stays state after xs ys status a b settled e w =
     record { bytes = w.bytes; said = says_stays true state after xs ys w.bytes settled (ended after status e) w.said; written = w.written }
 
-pub front_append : (state now : Going) (xs ys : List (List ℕ)) (a b c : Option (List ℕ)) → Written state xs now a b → WrittenFront now ys b c → WrittenFront state (xs ++ ys) a c
-front_append state now xs ys a b c w f = record {
+pub prefix_append : (state now : Going) (xs ys : List (List ℕ)) (a b c : Option (List ℕ)) → Written state xs now a b → WrittenPrefix now ys b c → WrittenPrefix state (xs ++ ys) a c
+prefix_append state now xs ys a b c w f = record {
   answered = xs ++ f.answered;
   left = f.left;
   contents_are = ap (λ l. xs ++ l) f.contents_are ∙ sym (append_assoc xs f.answered f.left);
@@ -48,16 +46,12 @@ front_append state now xs ys a b c w f = record {
   written = (w.bytes ++ f.written.0, f.written.1, (ap (λ l. w.bytes ++ l) f.written.2.0 ∙ sym (append_assoc w.bytes f.written.0 f.written.1), appends_appends a b c w.bytes f.written.0 w.written f.written.2.1));
 }
 
--- all of it is a front
-pub front_whole : (state after : Going) (xs : List (List ℕ)) (a b : Option (List ℕ)) → Written state xs after a b → WrittenFront state xs a b
-front_whole state after xs a b w = record { answered = xs; left = []; contents_are = sym (append-nil xs); after = after; bytes = w.bytes; said = w.said; written = as_front a b w.bytes w.written }
+-- nothing of it is a prefix
+pub prefix_none : (state : Going) (xs : List (List ℕ)) (a : Option (List ℕ)) → WrittenPrefix state xs a a
+prefix_none state xs a = record { answered = []; left = xs; contents_are = refl; after = state; bytes = []; said = says_none state; written = as_prefix a a [] (appends_none a) }
 
--- and so is nothing
-pub front_none : (state : Going) (xs : List (List ℕ)) (a : Option (List ℕ)) → WrittenFront state xs a a
-front_none state xs a = record { answered = []; left = xs; contents_are = refl; after = state; bytes = []; said = says_none state; written = as_front a a [] (appends_none a) }
-
-pub front_longer : (state : Going) (xs ys : List (List ℕ)) (a b : Option (List ℕ)) → WrittenFront state xs a b → WrittenFront state (xs ++ ys) a b
-front_longer state xs ys a b f = record {
+pub prefix_longer : (state : Going) (xs ys : List (List ℕ)) (a b : Option (List ℕ)) → WrittenPrefix state xs a b → WrittenPrefix state (xs ++ ys) a b
+prefix_longer state xs ys a b f = record {
   answered = f.answered;
   left = f.left ++ ys;
   contents_are = ap (λ l. l ++ ys) f.contents_are ∙ append_assoc f.answered f.left ys;
@@ -68,8 +62,8 @@ front_longer state xs ys a b f = record {
 }
 
 -- an answer that was written in part
-pub one_front : (state now : Going) (body bytes : List ℕ) (a b : Option (List ℕ)) → Serves true state body now bytes → AppendsFront a b bytes → WrittenFront state (body ∷ []) a b
-one_front state now body bytes a b s w =
+pub one_prefix : (state now : Going) (body bytes : List ℕ) (a b : Option (List ℕ)) → Serves true state body now bytes → AppendsPrefix a b bytes → WrittenPrefix state (body ∷ []) a b
+one_prefix state now body bytes a b s w =
     record { answered = body ∷ []; left = []; contents_are = refl; after = now; bytes = bytes; said = says_one true state now body bytes s; written = w }
 
 -- one body is answered
@@ -78,16 +72,16 @@ pub one_answer : (state worked now : Going) (body : List ℕ) (status : Option S
 one_answer state worked now body status a b h s e =
     (sym e, record { bytes = s.1; said = says_one true state now body s.1 (record { worked = worked; hears = h; replies = s.0; sends = s.2 }); written = s.3 })
 
-front_sent : (state worked : Going) (body : List ℕ) (a b : Option (List ℕ)) → HearsAndRuns true state body worked → FrontOfAll worked a b → WrittenFront state (body ∷ []) a b
-front_sent state worked body a b h s = one_front state s.1 body s.2 a b (record { worked = worked; hears = h; replies = s.0; sends = s.3 }) s.4
+prefix_sent : (state worked : Going) (body : List ℕ) (a b : Option (List ℕ)) → HearsAndRuns true state body worked → PrefixOfAll worked a b → WrittenPrefix state (body ∷ []) a b
+prefix_sent state worked body a b h s = one_prefix state s.1 body s.2 a b (record { worked = worked; hears = h; replies = s.0; sends = s.3 }) s.4
 
 -- the answer to one body was broken off
 one_fault : (state worked now : Going) (body : List ℕ) (fault : ServeFault) (a b : Option (List ℕ)) → HearsAndRuns true state body worked → CanSendAll worked → SendsIs worked a (Err fault) now b
     → AnswersIs state (body ∷ []) a (Err fault) now b
 one_fault state worked now body Read a b h can s = absurd s
-one_fault state worked now body Write a b h can s = front_sent state worked body a b h (front_of_all worked now a b can s)
+one_fault state worked now body Write a b h can s = prefix_sent state worked body a b h (prefix_of_all worked now a b can s)
 one_fault state worked now body Strayed a b h can s = absurd s
-one_fault state worked now body Memory a b h can s = front_sent state worked body a b h (some_of_all worked s.0 a b can s.1)
+one_fault state worked now body Memory a b h can s = prefix_sent state worked body a b h (some_of_all worked s.0 a b can s.1)
 
 pub fault_answered : (state worked now : Going) (body : List ℕ) (r : Result (Option Status) ServeFault) (e fault : ServeFault) (a b : Option (List ℕ)) → r ≡ Err e → e ≡ fault
     → HearsAndRuns true state body worked → CanSendAll worked → SendsIs worked a (Err fault) now b → AnswersIs state (body ∷ []) a r now b
@@ -97,16 +91,16 @@ fault_answered state worked now body r e fault a b is same h can s =
 -- no memory was left for one body
 pub none_answered : (state now : Going) (body : List ℕ) (r : Result (Option Status) ServeFault) (e : ServeFault) (a : Option (List ℕ)) → r ≡ Err e → e ≡ Memory
     → AnswersIs state (body ∷ []) a r now a
-none_answered state now body r e a is memory = subst (λ x. AnswersIs state (body ∷ []) a x now a) (sym (is ∙ ap Err memory)) (front_none state (body ∷ []) a)
+none_answered state now body r e a is memory = subst (λ x. AnswersIs state (body ∷ []) a x now a) (sym (is ∙ ap Err memory)) (prefix_none state (body ∷ []) a)
 
 -- more bodies are answered after those that have been
 pub answers_more : (state now : Going) (xs ys : List (List ℕ)) (r : Result (Option Status) ServeFault) (after_it : Going) (first old new : Option (List ℕ))
     → Written state xs now first old → AnswersIs now ys old r after_it new → AnswersIs state (xs ++ ys) first r after_it new
 answers_more state now xs ys (Ok status) after_it first old new w a = (a.0, written_append state now after_it xs ys first old new w a.1)
 answers_more state now xs ys (Err Read) after_it first old new w a = absurd a
-answers_more state now xs ys (Err Write) after_it first old new w a = front_append state now xs ys first old new w a
+answers_more state now xs ys (Err Write) after_it first old new w a = prefix_append state now xs ys first old new w a
 answers_more state now xs ys (Err Strayed) after_it first old new w a = absurd a
-answers_more state now xs ys (Err Memory) after_it first old new w a = front_append state now xs ys first old new w a
+answers_more state now xs ys (Err Memory) after_it first old new w a = prefix_append state now xs ys first old new w a
 
 -- the answer isn't that all were answered
 abbrev pub IsStop : Result (Option Status) ServeFault → Type 0
@@ -120,25 +114,6 @@ pub answers_stay : (state now : Going) (xs ys : List (List ℕ)) (r : Result (Op
 answers_stay state now xs ys (Ok None) old new settled s a = absurd s
 answers_stay state now xs ys (Ok (Some status)) old new settled s a = (a.0, written_stays state now xs ys status old new settled a.0 a.1)
 answers_stay state now xs ys (Err Read) old new settled s a = absurd a
-answers_stay state now xs ys (Err Write) old new settled s a = front_longer state xs ys old new a
+answers_stay state now xs ys (Err Write) old new settled s a = prefix_longer state xs ys old new a
 answers_stay state now xs ys (Err Strayed) old new settled s a = absurd a
-answers_stay state now xs ys (Err Memory) old new settled s a = front_longer state xs ys old new a
-
--- the next body is answered
-pub answers_next : (state now later : Going) (bodies : List (Vec ℕ Global)) (i : ℕ) (body : Vec ℕ Global) (text : List ℕ) (r : Result (Option Status) ServeFault) (first old new : Option (List ℕ))
-    → i < length bodies → body ≡ get_or bodies i body → text ≡ body.items
-    → AnswersIs state (contents_of (take i bodies)) first (Ok None) now old → AnswersIs now (text ∷ []) old r later new
-    → AnswersIs state (contents_of (take (i + 1) bodies)) first r later new
-answers_next state now later bodies i body text r first old new h at e a b =
-    rw (take_next bodies i body text h at e) (answers_more state now (contents_of (take i bodies)) (text ∷ []) r later first old new a.1 b)
-
--- the next body stops the answers
-pub answers_stop : (state now later : Going) (bodies : List (Vec ℕ Global)) (i : ℕ) (body : Vec ℕ Global) (text : List ℕ) (r : Result (Option Status) ServeFault) (first old new : Option (List ℕ))
-    → IsAtRest state → i < length bodies → body ≡ get_or bodies i body → text ≡ body.items → IsStop r
-    → AnswersIs state (contents_of (take i bodies)) first (Ok None) now old → AnswersIs now (text ∷ []) old r later new
-    → AnswersIs state (contents_of bodies) first r later new
-answers_stop state now later bodies i body text r first old new settled h at e s a b =
-    let all : contents_of bodies ≡ contents_of (take (i + 1) bodies) ++ contents_of (drop (i + 1) bodies)
-    = ap contents_of (sym (take-append-drop (i + 1) bodies)) ∙ map-append (λ content. content.items) (take (i + 1) bodies) (drop (i + 1) bodies) in
-    rw all (answers_stay state later (contents_of (take (i + 1) bodies)) (contents_of (drop (i + 1) bodies)) r first new settled s
-    (answers_next state now later bodies i body text r first old new h at e a b))
+answers_stay state now xs ys (Err Memory) old new settled s a = prefix_longer state xs ys old new a

@@ -1,8 +1,10 @@
 //! The run on one thread: frames in, frames out.
-ghost use Rattle.std.specs.Prelude.{◌≡◌, ◌+◌, ◌<◌, ◌⊎◌, ◌||◌, true, false, List, [], ◌∷◌, ℕ, Some, OnOk, IfErr, None};
+ghost use Rattle.std.specs.Prelude.{◌≡◌, ◌+◌, ◌<◌, ◌⊎◌, ◌||◌, true, false, [], ◌∷◌, OnOk, IfErr, None};
 ghost use Rattle.std.specs.Io.KnownBytes.{Appends};
-ghost use Rattle.ls_devices.specs.Devices.{AppendsFront};
-ghost use Rattle.ls_plain.specs.Runs.{Answers, AnswersIs, AnswersPart, IsOutput, RunIs, SendsIs, ServedIs, WasServed, is_write, place_of};
+ghost use Rattle.ls_devices.specs.Devices.{AppendsPrefix};
+ghost use Rattle.ls_plain.specs.Runs.{RunsToOutput, ServedIs, is_write};
+ghost use Rattle.ls_plain.specs.own.Answering.{Answers, AnswersIs, AnswersPart, WasServed, standing_of};
+ghost use Rattle.ls_plain.specs.own.Sending.{SendsIs};
 ghost use Rattle.ls_steps.specs.Plain.{CanSendAll};
 ghost use Rattle.ls_steps.specs.Runs.{begun};
 ghost use Rattle.ls_session.specs.declared.turn.Status.{Status};
@@ -17,7 +19,7 @@ use std::alloc::Global;
 /// Writes a frame and flushes it. Where that fails a prefix of it may be written.
 fn send_frame<W: Sink>(writer: &mut W, frame: &[u8]) -> Result<(), ServeFault>
     ensures ok { OnOk result (Appends (W.contents writer.old) (W.contents writer.new) frame.now) }
-    ensures front { AppendsFront (W.contents writer.old) (W.contents writer.new) frame.now }
+    ensures prefix { AppendsPrefix (W.contents writer.old) (W.contents writer.new) frame.now }
     ensures failed { W.failed writer.new ≡ (W.failed writer.old || is_write result) }
     ensures flushed { OnOk result (W.unflushed writer.new ≡ false) }
     ensures fault { IfErr result (λ e. e ≡ ServeFault.Write) }
@@ -71,12 +73,12 @@ impl<W: Sink> Listener for Answering<'_, W> {
     ghost is_ready = { λ it. WasServed it.talk × (it.talk.status ≡ None) };
 
     ghost hears = { λ body it status after. (after.writer.ghost_name ≡ it.writer.ghost_name)
-        × Answers body (place_of it.talk (W.contents it.writer.now) (W.failed it.writer.now) (W.unflushed it.writer.now)) status
-        (place_of after.talk (W.contents after.writer.now) (W.failed after.writer.now) (W.unflushed after.writer.now)) };
+        × Answers body (standing_of it.talk (W.contents it.writer.now) (W.failed it.writer.now) (W.unflushed it.writer.now)) status
+        (standing_of after.talk (W.contents after.writer.now) (W.failed after.writer.now) (W.unflushed after.writer.now)) };
 
     ghost breaks = { λ body it fault after. (after.writer.ghost_name ≡ it.writer.ghost_name)
-        × AnswersPart body (place_of it.talk (W.contents it.writer.now) (W.failed it.writer.now) (W.unflushed it.writer.now)) fault
-        (place_of after.talk (W.contents after.writer.now) (W.failed after.writer.now) (W.unflushed after.writer.now)) };
+        × AnswersPart body (standing_of it.talk (W.contents it.writer.now) (W.failed it.writer.now) (W.unflushed it.writer.now)) fault
+        (standing_of after.talk (W.contents after.writer.now) (W.failed after.writer.now) (W.unflushed after.writer.now)) };
 
     /// Answers a message, and says the session's status.
     ///
@@ -132,15 +134,14 @@ pub fn serve_limited<R: Source, W: Sink>(
     ensures served { ServedIs (R.remaining reader.old) (R.remaining reader.new)
         ((R.failed reader.new ≡ true) ⊎ (R.reads reader.new + 1 ≡ reads)) (W.failed writer.new ≡ true)
         (W.contents writer.old) result (W.contents writer.new) }
-    ensures whole { (input : List ℕ) → R.remaining reader.old ≡ Some input → (status : Status) × (bytes : List ℕ)
-        × IsOutput true input status bytes
-        × RunIs input status bytes (R.remaining reader.new) (W.contents writer.old) result (W.contents writer.new) }
+    ensures whole { RunsToOutput (R.remaining reader.old) (R.remaining reader.new) (W.contents writer.old) result (W.contents writer.new) }
     ensures good { OnOk result (W.failed writer.new ≡ false) }
     ensures flushed { is_write result ≡ false → W.unflushed writer.old ≡ false → W.unflushed writer.new ≡ false }
 {
     let talk = Conversation::new(alloc);
     let mut answering = Answering { talk, writer };
     let answer = answer_input(alloc, reader, &mut answering, reads);
+    // (the reference has a name of its own: else nothing would be known of the sink behind it)
     let Answering {
         talk,
         writer: _writer,
@@ -173,9 +174,7 @@ pub fn serve_plain<R: Source, W: Sink>(
     ensures served { ServedIs (R.remaining reader.old) (R.remaining reader.new)
         ((R.failed reader.new ≡ true) ⊎ (R.reads reader.new + 1 ≡ READS_END)) (W.failed writer.new ≡ true)
         (W.contents writer.old) result (W.contents writer.new) }
-    ensures whole { (input : List ℕ) → R.remaining reader.old ≡ Some input → (status : Status) × (bytes : List ℕ)
-        × IsOutput true input status bytes
-        × RunIs input status bytes (R.remaining reader.new) (W.contents writer.old) result (W.contents writer.new) }
+    ensures whole { RunsToOutput (R.remaining reader.old) (R.remaining reader.new) (W.contents writer.old) result (W.contents writer.new) }
     ensures good { OnOk result (W.failed writer.new ≡ false) }
     ensures flushed { is_write result ≡ false → W.unflushed writer.old ≡ false → W.unflushed writer.new ≡ false }
 {

@@ -1,6 +1,6 @@
 -- What a document is written in, by the name of its language and by its uri (LSP 3.17, "TextDocumentItem").
-use Rattle.std.specs.Prelude.{ℕ, ◌-◌, List, length, drop, Bool, ◌||◌, Option, Some, None, bytes_eq, codes, if◌then◌else◌}
-use Rattle.std.specs.Str.{str_eq_ignore_ascii_case}
+use Rattle.std.specs.Prelude.{ℕ, List, Option, Some, None, bytes_eq, codes, if◌then◌else◌}
+use Rattle.text_files.specs.Names.{has_ending, is_markdown}
 use Rattle.ls_text.specs.declared.position.Encoding.{Encoding}
 use Rattle.ls_text.specs.declared.position.Encoding.TheVariants as encoding
 use Rattle.ls_text.specs.declared.position.Units.{Units}
@@ -16,14 +16,6 @@ format_named language =
     else if bytes_eq language (codes "markdown") then Some Markdown
     else if bytes_eq language (codes "xml") then Some Xml
     else None
-
--- a uri ends so, in any case of ASCII letters
-abbrev pub has_ending : List ℕ → List ℕ → Bool
-has_ending ending uri = str_eq_ignore_ascii_case (drop (length uri - length ending) uri) ending
-
--- a uri ends as the names of drafts in Markdown do
-abbrev pub is_markdown : List ℕ → Bool
-is_markdown uri = has_ending (codes ".md") uri || (has_ending (codes ".mkd") uri || has_ending (codes ".markdown") uri)
 
 -- what the ending of a uri says: a draft in Markdown (`is_markdown`), one in RFCXML (`.xml`), or else a grammar
 abbrev pub by_ending : List ℕ → Format

@@ -1,8 +1,9 @@
 //! What a document is written in, by the name of its language and by its uri (LSP 3.17, "TextDocumentItem").
 ghost use Rattle.std.specs.Prelude.{◌≡◌};
-ghost use Rattle.ls_session.specs.Language.{by_ending, encoding_for, format_named, has_ending, is_markdown};
+ghost use Rattle.ls_session.specs.Language.{by_ending, encoding_for, format_named};
 
 use ls_text::{Encoding, Units};
+use text_files::{has_ending, is_markdown};
 
 /// What a document is written in.
 #[derive(Clone, Copy, Debug, PartialEq, Eq)]
@@ -36,28 +37,13 @@ pub(crate) fn format_named(language: &str) -> Option<Format>
 pub(crate) fn by_ending(uri: &str) -> Format
     ensures { result ≡ by_ending uri.now }
 {
-    let uri = uri.as_bytes();
     if is_markdown(uri) {
         Format::Markdown
-    } else if has_ending(uri, b".xml") {
+    } else if has_ending(uri, ".xml") {
         Format::Xml
     } else {
         Format::Abnf
     }
-}
-
-fn is_markdown(uri: &[u8]) -> bool
-    ensures { result ≡ is_markdown uri.now }
-{
-    has_ending(uri, b".md") || has_ending(uri, b".mkd") || has_ending(uri, b".markdown")
-}
-
-/// Whether a uri ends so, in any case of ASCII letters.
-fn has_ending(uri: &[u8], ending: &[u8]) -> bool
-    ensures { result ≡ has_ending ending.now uri.now }
-{
-    let start = uri.len().saturating_sub(ending.len());
-    uri[start..].eq_ignore_ascii_case(ending)
 }
 
 /// How a document of this format is read, where positions count these units.

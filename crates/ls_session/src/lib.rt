@@ -12,6 +12,7 @@ mod kind;
 mod language;
 mod laws;
 mod legend;
+mod members;
 mod params;
 mod session;
 mod turn;

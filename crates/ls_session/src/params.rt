@@ -1,11 +1,15 @@
 //! What is read of a message's parameters. `None` says that they can't be read.
-ghost use Rattle.std.specs.Prelude.{◌≡◌, IfOk, option_map, unwrap_or};
+ghost use Rattle.std.specs.Prelude.{◌≡◌, IfOk, codes, option_and_then, option_map, unwrap_or, if◌then◌else◌};
+ghost use Rattle.serde_json.specs.Find.{as_str, get};
 ghost use Rattle.serde_json.specs.View.{view, items_view};
+ghost use Rattle.ls_session.specs.Language.{by_ending, encoding_for};
+ghost use Rattle.ls_session.specs.declared.language.Format.TheVariants.{Abnf};
 ghost use Rattle.serde_json.specs.Data.{null};
-ghost use Rattle.ls_session.specs.Params.{document_member, uri_of, label_of, count_in, read_position, range_of, range_or_none, edit_of, edits_of, changes_of, named_format, format_of, encoding_in, did_open_of, did_change_of, did_close_of, cancel_of, event_of, position_in, named_declarations, declarations_of, references_of, rename_of, action_of, ask_of, question_of, named_links, links_of, named_drafts, drafts_of, units_named, offer_of, first_offer, named_units, units_of_client, agreed_of};
+ghost use Rattle.ls_session.specs.Params.{document_member, uri_of, label_of, count_in, read_position, range_of, range_or_none, edit_of, edits_of, changes_of, named_format, did_open_of, did_change_of, cancel_of, event_of, position_in, named_declarations, declarations_of, references_of, rename_of, action_of, ask_of, question_of, named_links, links_of, named_drafts, drafts_of, units_named, offer_of, first_offer, named_units, units_of_client, agreed_of};
 
 use crate::kind::{NoticeKind, RequestKind};
 use crate::language::{Format, by_ending, encoding_for, format_named};
+use crate::members::{split, split_text};
 use crate::session::Agreed;
 use ls_answers::Ask;
 use ls_lists::{List, Text};
@@ -22,10 +26,18 @@ fn document_member<'v>(params: &'v Value, key: &str) -> Option<&'v Value>
     params.get("textDocument")?.get(key)
 }
 
-fn uri(params: &Value) -> Option<&str>
-    ensures { option_map (λ uri. uri.now) result ≡ uri_of (view params.now) }
+/// The uri of a document, which is moved.
+fn uri_in(document: Value) -> Option<Text>
+    ensures { result ≡ option_and_then as_str (get (codes "uri") (view document)) }
 {
-    document_member(params, "uri")?.as_str()
+    split_text(document, "uri").0
+}
+
+/// The uri of the document in parameters, which is moved.
+fn uri(params: Value) -> Option<Text>
+    ensures { result ≡ uri_of (view params) }
+{
+    split(params, "textDocument").0.and_then(uri_in)
 }
 
 fn label(params: &Value) -> i64
@@ -74,26 +86,22 @@ fn range_or_none(value: Option<&Value>) -> Option<Option<Range>>
     }
 }
 
-fn edit(alloc: Global, value: &Value) -> Result<Option<Edit>, Memory>
-    ensures { IfOk result (λ edit. edit ≡ edit_of (view value.now)) }
+/// An edit, whose text is moved.
+fn edit(value: Value) -> Option<Edit>
+    ensures { result ≡ edit_of (view value) }
 {
-    let Some(text) = value.get("text").and_then(Value::as_str) else {
-        return Ok(None);
-    };
-    let Some(range) = range_or_none(value.get("range")) else {
-        return Ok(None);
-    };
-    let text = Text::from_str(alloc, text)?;
-    Ok(Some(Edit { range, text }))
+    let range = range_or_none(value.get("range"))?;
+    let text = split_text(value, "text").0?;
+    Some(Edit { range, text })
 }
 
-fn edits(alloc: Global, values: &Vec<Value>) -> Result<Option<List<Edit>>, Memory>
-    ensures { IfOk result (λ edits. edits ≡ edits_of (items_view values.now.items)) }
+fn edits(alloc: Global, values: Vec<Value>) -> Result<Option<List<Edit>>, Memory>
+    ensures { IfOk result (λ edits. edits ≡ edits_of (items_view values.items)) }
 {
     // Most changes have one edit, for which a list takes no room to spare.
     let mut found = List::new(alloc);
     for value in values {
-        match edit(alloc, value)? {
+        match edit(value) {
             Some(edit) => found.push(edit)?,
             None => return Ok(None),
         }
@@ -101,12 +109,13 @@ fn edits(alloc: Global, values: &Vec<Value>) -> Result<Option<List<Edit>>, Memor
     Ok(Some(found))
 }
 
-fn changes(alloc: Global, params: &Value) -> Result<Option<List<Edit>>, Memory>
-    ensures { IfOk result (λ edits. edits ≡ changes_of (view params.now)) }
+fn changes(alloc: Global, params: Value) -> Result<Option<List<Edit>>, Memory>
+    ensures { IfOk result (λ edits. edits ≡ changes_of (view params)) }
 {
-    match params.get("contentChanges").and_then(Value::as_array) {
-        Some(values) => edits(alloc, values),
-        None => Ok(None),
+    let (changes, _) = split(params, "contentChanges");
+    match changes {
+        Some(Value::Array(values)) => edits(alloc, values),
+        _ => Ok(None),
     }
 }
 
@@ -116,59 +125,43 @@ fn named_format(params: &Value) -> Option<Format>
     format_named(document_member(params, "languageId")?.as_str()?)
 }
 
-/// What a document with this uri is written in: what `languageId` says, or else the ending of the uri.
-fn format(uri: &str, params: &Value) -> Format
-    ensures { result ≡ format_of uri.now (view params.now) }
-{
-    named_format(params).unwrap_or(by_ending(uri))
-}
-
-/// How a document with this uri is read: as a grammar unless drafts were agreed on, and else by what it is written in.
-fn encoding(agreed: Agreed, uri: &str, params: &Value) -> Encoding
-    ensures { result ≡ encoding_in agreed uri.now (view params.now) }
+/// How a document with this uri is read: as a grammar unless drafts were agreed on, and else by what it is written in, which is what was
+/// named, or what the ending of the uri says.
+fn encoding(agreed: Agreed, uri: &str, named: Option<Format>) -> Encoding
+    ensures { result ≡ encoding_for (if agreed.drafts then unwrap_or named (by_ending uri.now) else Abnf) agreed.units }
 {
     if agreed.drafts {
-        encoding_for(format(uri, params), agreed.units)
+        encoding_for(named.unwrap_or(by_ending(uri)), agreed.units)
     } else {
         encoding_for(Format::Abnf, agreed.units)
     }
 }
 
-fn did_open(alloc: Global, agreed: Agreed, params: &Value) -> Result<Option<ClientEvent>, Memory>
-    ensures { IfOk result (λ event. event ≡ did_open_of agreed (view params.now)) }
+fn did_open(agreed: Agreed, params: Value) -> Option<ClientEvent>
+    ensures { result ≡ did_open_of agreed (view params) }
 {
-    let Some(uri) = uri(params) else {
-        return Ok(None);
-    };
-    let Some(text) = document_member(params, "text").and_then(Value::as_str) else {
-        return Ok(None);
-    };
-    let encoding = encoding(agreed, uri, params);
-    let uri = Text::from_str(alloc, uri)?;
-    let text = Text::from_str(alloc, text)?;
-    Ok(Some(ClientEvent::DidOpen(uri, label(params), text, encoding)))
+    let label = label(&params);
+    let named = named_format(&params);
+    let document = split(params, "textDocument").0?;
+    let (uri, document) = split_text(document, "uri");
+    let uri = uri?;
+    let text = split_text(document, "text").0?;
+    let encoding = encoding(agreed, uri.as_str(), named);
+    Some(ClientEvent::DidOpen(uri, label, text, encoding))
 }
 
 /// A change that can't be read closes its document, since its text isn't known any more.
-fn did_change(alloc: Global, params: &Value) -> Result<Option<ClientEvent>, Memory>
-    ensures { IfOk result (λ event. event ≡ did_change_of (view params.now)) }
+fn did_change(alloc: Global, params: Value) -> Result<Option<ClientEvent>, Memory>
+    ensures { IfOk result (λ event. event ≡ did_change_of (view params)) }
 {
-    let Some(uri) = uri(params) else {
+    let label = label(&params);
+    let (document, params) = split(params, "textDocument");
+    let Some(uri) = document.and_then(uri_in) else {
         return Ok(None);
     };
-    let uri = Text::from_str(alloc, uri)?;
     match changes(alloc, params)? {
-        Some(edits) => Ok(Some(ClientEvent::DidChange(uri, label(params), edits))),
+        Some(edits) => Ok(Some(ClientEvent::DidChange(uri, label, edits))),
         None => Ok(Some(ClientEvent::DidClose(uri))),
-    }
-}
-
-fn did_close(alloc: Global, params: &Value) -> Result<Option<ClientEvent>, Memory>
-    ensures { IfOk result (λ event. event ≡ did_close_of (view params.now)) }
-{
-    match uri(params) {
-        Some(uri) => Ok(Some(ClientEvent::DidClose(Text::from_str(alloc, uri)?))),
-        None => Ok(None),
     }
 }
 
@@ -187,15 +180,15 @@ pub(crate) fn event(
     alloc: Global,
     agreed: Agreed,
     kind: NoticeKind,
-    params: &Value,
+    params: Value,
 ) -> Result<Option<ClientEvent>, Memory>
-    ensures { IfOk result (λ event. event ≡ event_of agreed kind (view params.now)) }
+    ensures { IfOk result (λ event. event ≡ event_of agreed kind (view params)) }
 {
     match kind {
-        NoticeKind::DidOpen => did_open(alloc, agreed, params),
+        NoticeKind::DidOpen => Ok(did_open(agreed, params)),
         NoticeKind::DidChange => did_change(alloc, params),
-        NoticeKind::DidClose => did_close(alloc, params),
-        NoticeKind::CancelRequest => cancel(alloc, params),
+        NoticeKind::DidClose => Ok(uri(params).map(ClientEvent::DidClose)),
+        NoticeKind::CancelRequest => cancel(alloc, &params),
         NoticeKind::Exit | NoticeKind::Unknown => Ok(None),
     }
 }
@@ -264,15 +257,16 @@ fn ask(alloc: Global, kind: RequestKind, params: &Value) -> Result<Option<Ask>, 
 pub(crate) fn question(
     alloc: Global,
     kind: RequestKind,
-    params: &Value,
+    params: Value,
 ) -> Result<Option<(Text, Ask)>, Memory>
-    ensures { IfOk result (λ question. question ≡ question_of kind (view params.now)) }
+    ensures { IfOk result (λ question. question ≡ question_of kind (view params)) }
 {
+    let ask = ask(alloc, kind, &params)?;
     let Some(uri) = uri(params) else {
         return Ok(None);
     };
-    match ask(alloc, kind, params)? {
-        Some(ask) => Ok(Some((Text::from_str(alloc, uri)?, ask))),
+    match ask {
+        Some(ask) => Ok(Some((uri, ask))),
         None => Ok(None),
     }
 }

@@ -102,10 +102,10 @@ fn turn(alloc: Global, stage: Stage, message: Message) -> Result<(Turn, Stage), 
 {
     match message {
         Message::Request { id, method, params } => {
-            request_turn(alloc, stage, id, request_kind(method.as_str()), &params)
+            request_turn(alloc, stage, id, request_kind(method.as_str()), params)
         }
         Message::Notice { method, params } => {
-            notice_turn(alloc, stage, notice_kind(method.as_str()), &params)
+            notice_turn(alloc, stage, notice_kind(method.as_str()), params)
         }
         Message::Response => Ok((Turn::Nothing, stage)),
         Message::Bad { id, code } => Ok((bad_turn(alloc, stage, id, code)?, stage)),
@@ -117,9 +117,9 @@ fn request_turn(
     stage: Stage,
     id: Id,
     kind: RequestKind,
-    params: &Value,
+    params: Value,
 ) -> Result<(Turn, Stage), Memory>
-    ensures { IfOk result (λ turn. turn ≡ request_turn stage id kind (view params.now)) }
+    ensures { IfOk result (λ turn. turn ≡ request_turn stage id kind (view params)) }
 {
     match stage {
         Stage::BeforeInitialize => first_turn(alloc, id, kind, params),
@@ -133,13 +133,13 @@ fn first_turn(
     alloc: Global,
     id: Id,
     kind: RequestKind,
-    params: &Value,
+    params: Value,
 ) -> Result<(Turn, Stage), Memory>
-    ensures { IfOk result (λ turn. turn ≡ first_turn id kind (view params.now)) }
+    ensures { IfOk result (λ turn. turn ≡ first_turn id kind (view params)) }
 {
     match kind {
         RequestKind::Initialize => {
-            let agreed = params::agreed(params);
+            let agreed = params::agreed(&params);
             let reply = replied(alloc, &id, initialize_value(alloc, agreed.units)?)?;
             Ok((reply, Stage::Running(agreed)))
         }
@@ -155,9 +155,9 @@ fn running_turn(
     agreed: Agreed,
     id: Id,
     kind: RequestKind,
-    params: &Value,
+    params: Value,
 ) -> Result<(Turn, Stage), Memory>
-    ensures { IfOk result (λ turn. turn ≡ running_turn agreed id kind (view params.now)) }
+    ensures { IfOk result (λ turn. turn ≡ running_turn agreed id kind (view params)) }
 {
     let stage = Stage::Running(agreed);
     match kind {
@@ -186,9 +186,9 @@ fn notice_turn(
     alloc: Global,
     stage: Stage,
     kind: NoticeKind,
-    params: &Value,
+    params: Value,
 ) -> Result<(Turn, Stage), Memory>
-    ensures { IfOk result (λ turn. turn ≡ notice_turn stage kind (view params.now)) }
+    ensures { IfOk result (λ turn. turn ≡ notice_turn stage kind (view params)) }
 {
     match kind {
         NoticeKind::Exit => Ok(exit_turn(stage)),
@@ -213,13 +213,13 @@ fn stage_event(
     alloc: Global,
     stage: Stage,
     kind: NoticeKind,
-    params: &Value,
+    params: Value,
 ) -> Result<Option<ClientEvent>, Memory>
-    ensures { IfOk result (λ event. event ≡ stage_event stage kind (view params.now)) }
+    ensures { IfOk result (λ event. event ≡ stage_event stage kind (view params)) }
 {
     match stage {
         Stage::Running(agreed) => params::event(alloc, agreed, kind, params),
-        Stage::ShutDown => late_event(alloc, kind, params),
+        Stage::ShutDown => late_event(alloc, kind, &params),
         Stage::BeforeInitialize | Stage::Ended => Ok(None),
     }
 }

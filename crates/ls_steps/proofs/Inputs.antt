@@ -1,20 +1,13 @@
 -- What is read of a whole input.
-use Rattle.std.proofs.Common.{◌≡◌, ℕ, List, [], ◌∷◌, Option, Some, None, refl, sym, ap, subst, inl, inr}
+use Rattle.std.proofs.Common.{◌≡◌, ℕ, List, [], Some, None, refl, sym, subst, inl, inr}
 use Rattle.std.specs.Prelude.{◌≢◌, ◌⊎◌, Result, Ok, Err, Vec}
 use Rattle.std.specs.declared.alloc.Global.{Global}
-use Rattle.std.specs.Result.{result_err}
 use Rattle.ls_frame.specs.Frames.{Stream}
 use Rattle.ls_frame.specs.Faults.{fault_of}
-use Rattle.ls_frame.specs.Feeds.{EndIs, FeedIs, contents_of}
+use Rattle.ls_frame.specs.Feeds.{FeedIs, contents_of}
 use Rattle.ls_frame.specs.declared.fault.FrameFault.{FrameFault}
 use Rattle.ls_frame.specs.declared.fault.FrameFault.TheVariants.{HeaderTooLong, BadHeader, NoLength, TwoLengths, BadLength, TooLarge, Truncated, Memory}
 use Rattle.ls_frame.proofs.Streams.{no_fault}
-use Rattle.ls_steps.specs.Runs.{ends_wrong}
-
-pub ends_so : (fault : Option FrameFault) (rest : List ℕ) (r : Result Unit FrameFault) → EndIs fault rest r → result_err r ≡ ends_wrong fault rest
-ends_so (Some fault) rest r h = ap result_err h
-ends_so None [] r h = ap result_err h
-ends_so None (b ∷ rest) r h = ap result_err h
 
 given_stream : (input kept : List ℕ) (given : List (List ℕ)) → ((contents : List (List ℕ)) × (given ≡ contents) × Stream input contents kept) → Stream input given kept
 given_stream input kept given h = let P : List (List ℕ) → Type 0 = λ l. Stream input l kept in subst P (sym h.1) h.2

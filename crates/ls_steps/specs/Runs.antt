@@ -1,11 +1,12 @@
 -- The session of one client over a desk, step by step: what each step enters into the desk's journal, and the bytes that it writes.
-use Rattle.std.specs.Prelude.{◌≡◌, ◌⊎◌, ℕ, List, [], ◌∷◌, ◌++◌, drop, remove, slice_get, find, is_none, is_some, Bool, true, false, Option, Some, None, Vec, if◌then◌else◌}
+use Rattle.std.specs.Prelude.{◌≡◌, ◌⊎◌, ℕ, List, [], ◌∷◌, ◌++◌, drop, remove, slice_get, find, is_none, is_some, Bool, true, false, Option, Some, None, Result, Vec, if◌then◌else◌}
 use Rattle.std.specs.declared.alloc.Global.{Global}
 use Rattle.std.specs.Arc.{arc_value}
+use Rattle.std.specs.Result.{result_err}
 use Rattle.ls_frame.specs.Frames.{Stream, frame_of}
 use Rattle.ls_frame.specs.Faults.{fault_of}
+use Rattle.ls_frame.specs.Feeds.{EndIs}
 use Rattle.ls_frame.specs.declared.fault.FrameFault.{FrameFault}
-use Rattle.ls_frame.specs.declared.fault.FrameFault.TheVariants.{Truncated}
 use Rattle.ls_rpc.specs.Message.{message_of}
 use Rattle.ls_rpc.specs.declared.message.Id.{Id}
 use Rattle.ls_text.specs.declared.position.Encoding.{Encoding}
@@ -255,12 +256,6 @@ Runs may_fail g (act ∷ acts) h bytes = (mid : Going) × (now : List ℕ) × (l
 
 -- ---- a run on an input
 
--- the fault that stands behind the last whole frame of an input, which ends the session: that of the rest, or that it is cut short
-abbrev pub ends_wrong : Option FrameFault → List ℕ → Option FrameFault
-ends_wrong (Some fault) rest = Some fault
-ends_wrong None [] = None
-ends_wrong None (b ∷ rest) = Some Truncated
-
 -- what a Message does where these bodies are left to be read: behind the last one stands the fault, or nothing
 abbrev pub next_act : List (List ℕ) → Option FrameFault → List Act
 next_act (body ∷ bodies) fault = hear body ∷ []
@@ -275,9 +270,12 @@ acts_of bodies fault (step.Take ∷ steps) = take_job ∷ acts_of bodies fault s
 acts_of bodies fault (step.Finish k ∷ steps) = finish_job k ∷ acts_of bodies fault steps
 acts_of bodies fault (step.Send ∷ steps) = send ∷ acts_of bodies fault steps
 
--- The run of these steps on the frames of the input gives these bytes, and leaves the session so.
+-- The run of these steps on the frames of the input gives these bytes, and leaves the session so. The fault that stands behind its last
+-- whole frame, where one does, is the one by which the stream ends there.
 pub record IsRun (input : List ℕ) (steps : List Step) (h : Going) (bytes : List ℕ) : Type 0 where
   pub contents : List (List ℕ)
   pub rest : List ℕ
   pub stream : Stream input contents rest
-  pub runs : Runs true begun (acts_of contents (ends_wrong (fault_of rest) rest) steps) h bytes
+  pub end : Result Unit FrameFault
+  pub ends : EndIs (fault_of rest) rest end
+  pub runs : Runs true begun (acts_of contents (result_err end) steps) h bytes

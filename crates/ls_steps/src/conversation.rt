@@ -1,5 +1,5 @@
 //! A client's session, over a desk.
-ghost use Rattle.std.specs.Prelude.{◌≡◌, ◌<◌, ◌≤◌, ◌&&◌, ℕ, List, [], length, not, is_some, true, IfOk, IfNone, IfSome, OnOk, Some};
+ghost use Rattle.std.specs.Prelude.{◌≡◌, ◌<◌, ◌≤◌, ◌&&◌, [], not, is_some, true, IfOk, IfNone, IfSome, OnOk, Some};
 ghost use Rattle.ls_machine.specs.Machine.{first_ticket};
 ghost use Rattle.ls_machine.specs.Counts.{total};
 ghost use Rattle.ls_steps.specs.Plain.{has_run_all};
@@ -8,17 +8,11 @@ ghost use Rattle.ls_steps.specs.Runs.{Steps, begun, break_off, bytes_in, counts_
 
 use crate::at_desk::{finish, meet, run_job};
 use ls_answers::{Job, Recent};
-use ls_desk::{Desk, DeskFault, Out};
+use ls_desk::{Desk, DeskFault, MOST_EVENTS, MOST_JOURNAL, Out};
 use ls_frame::FrameFault;
 use ls_session::{Session, Status, Turn, framed};
 use std::alloc::{AllocError as Memory, Global};
 use std::marker::Model;
-
-/// The most events that the desk's journal may have where a client's event comes to it.
-const MOST_JOURNAL: usize = 1_000_000;
-
-/// The most events and unsent replies of a session, together.
-const MOST_EVENTS: u64 = 18_446_744_073_709_551_614;
 
 /// The number of the worker.
 const WORKER: u32 = 0;

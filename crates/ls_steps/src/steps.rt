@@ -1,10 +1,9 @@
 //! A run by steps.
-ghost use Rattle.std.specs.Prelude.{◌≡◌, ◌≢◌, false, Err, IfOk, List, ℕ};
+ghost use Rattle.std.specs.Prelude.{◌≡◌, ◌≢◌, [], false, Err, IfOk, OnOk};
 ghost use Rattle.ls_desk.specs.Stands.{IsSound};
 ghost use Rattle.ls_frame.specs.Feeds.{contents_of};
 ghost use Rattle.ls_frame.specs.Frames.{Stream};
-ghost use Rattle.ls_frame.specs.Faults.{fault_of};
-ghost use Rattle.ls_steps.specs.Runs.{Going, IsRun, ends_wrong};
+ghost use Rattle.ls_steps.specs.Runs.{Going, IsRun};
 
 use crate::conversation::Conversation;
 use ls_desk::Desk;
@@ -36,13 +35,6 @@ pub struct Run {
     pub status: Option<Status>,
 }
 
-/// What can be read of an input: the contents of its whole frames, and what is wrong behind them.
-#[derive(Drop)]
-struct Frames {
-    bodies: Vec<Vec<u8>>,
-    fault: Option<FrameFault>,
-}
-
 /// Whether memory was refused to the framer.
 fn is_memory(fed: &Result<usize, FrameFault>) -> bool
     ensures { result ≡ false → fed.now ≢ Err FrameFault.Memory }
@@ -53,20 +45,17 @@ fn is_memory(fed: &Result<usize, FrameFault>) -> bool
     }
 }
 
-impl Frames {
-    fn of(alloc: Global, input: &[u8]) -> Result<Frames, Memory>
-        ensures { IfOk result (λ frames. (rest : List ℕ) × Stream input.now (contents_of frames.bodies.items) rest
-            × (frames.fault ≡ ends_wrong (fault_of rest) rest)) }
-    {
-        let mut framer = Framer::new(alloc);
-        let mut bodies = Vec::new(alloc);
-        let fed = framer.feed(input, &mut bodies);
-        if is_memory(&fed) {
-            return Err(Memory);
-        }
-        let fault = framer.end().err();
-        Ok(Frames { bodies, fault })
+/// Takes all of an input, and appends the contents of its whole frames. What is wrong behind them the framer's end says.
+fn feed_all(framer: &mut Framer, input: &[u8], bodies: &mut Vec<Vec<u8>>) -> Result<(), Memory>
+    requires start { framer.old ≡ [] }
+    requires none { bodies.old.items ≡ [] }
+    ensures { OnOk result (Stream input.now (contents_of bodies.new.items) framer.new) }
+{
+    let fed = framer.feed(input, bodies);
+    if is_memory(&fed) {
+        return Err(Memory);
     }
+    Ok(())
 }
 
 /// Runs a session by steps, over all that its client sends. What each step does is a method of [`Conversation`]; a Message with no frame
@@ -80,18 +69,21 @@ pub fn run_steps(alloc: Global, input: &[u8], steps: &[Step]) -> Result<Run, Mem
     ensures run { IfOk result (λ run. (h : Going) × IsRun input.now steps.now h run.bytes.items × (run.desk.base ≡ h.base) × (run.desk.journal ≡ h.journal) × (run.status ≡ h.status)) }
     ensures sound { IfOk result (λ run. IsSound run.desk × (run.desk.max_events ≡ 18446744073709551614)) }
 {
-    let frames = Frames::of(alloc, input)?;
+    let mut framer = Framer::new(alloc);
+    let mut bodies = Vec::new(alloc);
+    feed_all(&mut framer, input, &mut bodies)?;
+    let end = framer.end();
     let mut talk = Conversation::new(alloc);
     let mut bytes = Vec::new(alloc);
     let mut read = 0;
     for step in steps {
         match step {
             Step::Message => {
-                if read < frames.bodies.len() {
-                    talk.hear(&frames.bodies[read])?;
+                if read < bodies.len() {
+                    talk.hear(&bodies[read])?;
                     read += 1;
-                } else if let Some(fault) = frames.fault {
-                    talk.break_off(fault);
+                } else if let Err(fault) = &end {
+                    talk.break_off(*fault);
                 }
             }
             Step::Take => {

@@ -15,12 +15,12 @@ use Rattle.ls_session.specs.Bodies.{body_of}
 use Rattle.ls_session.specs.declared.turn.Status.{Status}
 use Rattle.ls_session.specs.declared.session.Stage.TheVariants.{BeforeInitialize}
 use Rattle.ls_desk.specs.Stands.{IsSound, Seen, Sends, counts_of, ticket_of_out, used}
-use Rattle.ls_devices.specs.Devices.{AppendsFront}
+use Rattle.ls_devices.specs.Devices.{AppendsPrefix}
 use Rattle.ls_devices.proofs.Known.{appends_appends, appends_none}
 use Rattle.ls_history.specs.History.{IsHistoryOf}
 use Rattle.ls_history.specs.Told.{heard_of, heard_of_one, out_of_one, outs_of}
-use Rattle.ls_history.specs.declared.happened.Happened.{Happened}
-use Rattle.ls_history.specs.declared.happened.Happened.TheVariants.{Left}
+use Rattle.ls_history.specs.declared.history_entry.HistoryEntry.{HistoryEntry}
+use Rattle.ls_history.specs.declared.history_entry.HistoryEntry.TheVariants.{Left}
 use Rattle.ls_history.proofs.Leads.{histories_go_on}
 use Rattle.ls_workers.specs.Jobs.{HasLimits}
 use Rattle.ls_workers.specs.Seats.{HasHistory, HaveHistory}
@@ -60,7 +60,7 @@ all_front failed a b outs w = record {
 }
 
 -- behind all that was written comes a front of one more
-left_front : (failed : Bool) (a b c : Option (List ℕ)) (outs : List Out) (out : Out) → Appends a b (frames_for outs) → (f : AppendsFront b c (frame_for out)) → (failed ≡ false → f.0 ≡ [])
+left_front : (failed : Bool) (a b c : Option (List ℕ)) (outs : List Out) (out : Out) → Appends a b (frames_for outs) → (f : AppendsPrefix b c (frame_for out)) → (failed ≡ false → f.0 ≡ [])
     → WritesFront failed a c (outs ++ out ∷ [])
 left_front failed a b c outs out w f none = record {
   whole = outs;
@@ -76,7 +76,7 @@ left_front failed a b c outs out w f none = record {
 
 -- a reply comes behind those that were all written
 front_next : (end : Wrote) (a b c : Option (List ℕ)) (outs : List Out) (out : Out) → Appends a b (frames_for outs) → (end ≡ All → Appends b c (frame_for out))
-    → AppendsFront b c (frame_for out) → (end ≡ Memory → Appends b c []) → WritesFront (has_failed end) a c (outs ++ out ∷ [])
+    → AppendsPrefix b c (frame_for out) → (end ≡ Memory → Appends b c []) → WritesFront (has_failed end) a c (outs ++ out ∷ [])
 front_next All a b c outs out w all front none =
     all_front false a c (outs ++ out ∷ []) (subst (Appends a c) (sym (frames_more outs out)) (appends_appends a b c (frames_for outs) (frame_for out) w (all refl)))
 front_next Failed a b c outs out w all front none = left_front true a b c outs out w front (λ e. absurd (cc))
@@ -123,7 +123,7 @@ has_begun a held outs none =
 
 -- a reply more was given, and its frame written, or a front of it
 pub writes_on : (a b c : Option (List ℕ)) (held before holds : Bool) (end : Wrote) (outs later : List Out) (out : Out) → HasWritten a b held before All outs → later ≡ outs ++ out ∷ []
-    → (end ≡ All → Appends b c (frame_for out)) → AppendsFront b c (frame_for out) → (end ≡ Memory → Appends b c []) → (before ≡ false → has_failed end ≡ false → holds ≡ false)
+    → (end ≡ All → Appends b c (frame_for out)) → AppendsPrefix b c (frame_for out) → (end ≡ Memory → Appends b c []) → (before ≡ false → has_failed end ≡ false → holds ≡ false)
     → HasWritten a c held holds end later
 writes_on a b c held before holds end outs later out h more whole front none flushed =
     subst (HasWritten a c held holds end) (sym more) (record {
@@ -172,7 +172,7 @@ leave_used before after (out ∷ outs) l = leave_used l.0 after outs l.2 ∙ sen
 
 -- ---- and come into its history
 
-left_all : List Out → List Happened
+left_all : List Out → List HistoryEntry
 left_all [] = []
 left_all (out ∷ outs) = Left out ∷ left_all outs
 
@@ -186,13 +186,13 @@ unfolding left_all
 heard_left [] = refl
 heard_left (out ∷ outs) = heard_left outs
 
-outs_behind : (log : List Happened) (outs : List Out) → outs_of (log ++ left_all outs) ≡ outs_of log ++ outs
+outs_behind : (log : List HistoryEntry) (outs : List Out) → outs_of (log ++ left_all outs) ≡ outs_of log ++ outs
 outs_behind log outs = filter_map-append out_of_one log (left_all outs) ∙ ap (λ l. outs_of log ++ l) (outs_left outs)
 
-heard_behind : (log : List Happened) (outs : List Out) → heard_of (log ++ left_all outs) ≡ heard_of log
+heard_behind : (log : List HistoryEntry) (outs : List Out) → heard_of (log ++ left_all outs) ≡ heard_of log
 heard_behind log outs = filter_map-append heard_of_one log (left_all outs) ∙ (ap (λ l. heard_of log ++ l) (heard_left outs) ∙ append-nil (heard_of log))
 
-history_more : (before after : Seen) (log : List Happened) (outs : List Out) → IsHistoryOf before log → Leave outs before after → IsHistoryOf after (log ++ left_all outs)
+history_more : (before after : Seen) (log : List HistoryEntry) (outs : List Out) → IsHistoryOf before log → Leave outs before after → IsHistoryOf after (log ++ left_all outs)
 unfolding left_all
 history_more before after log [] history none = subst (IsHistoryOf after) (sym (append-nil log)) (subst (λ (d : Seen). IsHistoryOf d log) (sym none) history)
 history_more before after log (out ∷ outs) history l =
@@ -207,7 +207,7 @@ told_none end d a = record { outs = []; leave = refl; front = all_front (has_fai
 
 -- a reply more left the desk, and its frame was written
 pub told_more : (end : Wrote) (d e f : Seen) (a b c : Option (List ℕ)) (out : Out) → HasTold All d e a b → Sends e f out → (end ≡ All → Appends b c (frame_for out))
-    → AppendsFront b c (frame_for out) → (end ≡ Memory → Appends b c []) → HasTold end d f a c
+    → AppendsPrefix b c (frame_for out) → (end ≡ Memory → Appends b c []) → HasTold end d f a c
 told_more end d e f a b c out h sends whole front none = record {
   outs = h.outs ++ out ∷ [];
   leave = leave_more d e f h.outs out h.leave sends;

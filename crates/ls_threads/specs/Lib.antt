@@ -4,4 +4,6 @@ pub mod Reading
 pub mod Served
 pub mod Settled
 pub mod Writing
+pub mod Laws
+pub mod Progress
 pub mod own

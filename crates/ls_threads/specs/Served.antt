@@ -6,7 +6,7 @@ use Rattle.ls_session.specs.declared.session.Stage.TheVariants.{BeforeInitialize
 use Rattle.ls_desk.specs.Stands.{IsSound, Seen}
 use Rattle.ls_history.specs.History.{IsHistoryOf}
 use Rattle.ls_history.specs.Told.{heard_of, outs_of}
-use Rattle.ls_history.specs.declared.happened.Happened.{Happened}
+use Rattle.ls_history.specs.declared.history_entry.HistoryEntry.{HistoryEntry}
 use Rattle.ls_workers.specs.Jobs.{HasLimits}
 use Rattle.ls_threads.specs.Input.{HasHeard}
 use Rattle.ls_threads.specs.Settled.{IsSettled}
@@ -22,7 +22,7 @@ pub record IsServed (journal events : ℕ) (status : Status) (input left old new
   pub desk : Seen
   pub limits : HasLimits journal events desk
   pub sound : IsSound desk
-  pub log : List Happened
+  pub log : List HistoryEntry
   pub history : IsHistoryOf desk log
   pub end : ReaderEnd Early
   pub heard : HasHeard input left BeforeInitialize [] end (heard_of log)

@@ -10,7 +10,7 @@ use Rattle.ls_session.specs.declared.session.Stage.TheVariants.{BeforeInitialize
 use Rattle.ls_desk.specs.Stands.{Seen, Sends}
 use Rattle.ls_history.specs.History.{IsLegal}
 use Rattle.ls_history.specs.Told.{heard_of, outs_of}
-use Rattle.ls_history.specs.declared.happened.Happened.{Happened}
+use Rattle.ls_history.specs.declared.history_entry.HistoryEntry.{HistoryEntry}
 use Rattle.ls_threads.specs.Ends.{has_failed}
 use Rattle.ls_threads.specs.Input.{HasHeard}
 use Rattle.ls_devices.specs.declared.reading.ReaderEnd.{ReaderEnd}
@@ -43,7 +43,7 @@ pub record WritesFront (failed : Bool) (old new : Option (List ℕ)) (outs : Lis
 -- written are, whole and in order, the frames of its replies, but at most the last one's; of that one a prefix, and only where the sink
 -- failed.
 pub record WritesFrames (failed : Bool) (input left old new : Option (List ℕ)) : Type 0 where
-  pub log : List Happened
+  pub log : List HistoryEntry
   pub legal : IsLegal log
   pub end : ReaderEnd Early
   pub heard : HasHeard input left BeforeInitialize [] end (heard_of log)

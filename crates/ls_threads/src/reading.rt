@@ -16,7 +16,6 @@ use ls_session::{ClientEvent, Session, Status, Turn, refusal_to};
 use ls_workers::{Board, ClientSeat, Crew};
 use std::alloc::Global;
 use std::sync::Wait;
-use std::sync::atomic::{AtomicU64, Ordering};
 
 /// The client's seat at a board, and its session.
 #[derive(Drop)]
@@ -24,8 +23,6 @@ pub struct Reader<'a, C: Crew, R> {
     pub rt: &'a R,
     pub alloc: Global,
     pub board: &'a Board<C>,
-    /// Raised where the run ends for all.
-    pub halted: &'a AtomicU64,
     pub seat: ClientSeat<C>,
     pub session: Session,
 }
@@ -39,13 +36,14 @@ impl<C: Crew, R: Wait> Listener for Reader<'_, C, R> {
 
     ghost breaks = { λ body reader _ after. BreaksOff body (reader.session, heard_of reader.seat.front) (after.session, heard_of after.seat.front) };
 
-    /// Hears a message by its body, and answers the status of an exit. Once the run is ended none is heard.
+    /// Hears a message by its body, and answers the status of an exit. Once the board has ended by `Now` none is heard.
     ///
     /// # Errors
     ///
-    /// `Halted` where the run is ended, and else where the event was refused for want of room or of memory.
+    /// `Halted` where the board has ended so, and else where the event was refused for want of room or of memory.
     fn hear(&mut self, body: &[u8]) -> Result<Option<Status>, Early> {
-        if self.halted.load(Ordering::SeqCst) != 0 {
+        let mut seen = self.seat.front.again();
+        if self.board.has_ended(self.rt, &mut seen) {
             return Err(Early::Halted);
         }
         match self.session.event(body)? {
@@ -97,7 +95,7 @@ impl<C: Crew, R: Wait> Reader<'_, C, R> {
     pub fn read_on<I: Source>(&mut self, source: &mut I) -> ReaderEnd<Early>
         requires none { I.reads source.old ≡ 0 }
         requires good { I.failed source.old ≡ false }
-        ensures cause { has_cause result (I.failed source.new) (I.reads source.new) 1099511627776 ≡ true }
+        ensures cause { has_cause result (I.failed source.new) (I.reads source.new) READS_END ≡ true }
         ensures heard { HasHeard (I.remaining source.old) (I.remaining source.new) self.old.session (heard_of self.old.seat.front)
             result (heard_of self.new.seat.front) }
     {

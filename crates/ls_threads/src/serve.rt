@@ -5,43 +5,36 @@ ghost use Rattle.std.specs.Io.KnownBytes.{Appends};
 ghost use Rattle.ls_session.specs.declared.session.Stage.TheVariants.{BeforeInitialize};
 ghost use Rattle.ls_history.specs.Told.{heard_of, outs_of};
 ghost use Rattle.ls_workers.specs.Jobs.{HasLimits};
-ghost use Rattle.ls_workers.specs.Seats.{AreAll, told_by};
+ghost use Rattle.ls_workers.specs.Seats.{AreAll, logged_by};
 ghost use Rattle.ls_threads.specs.own.Audit.{IsAnswered, left_by_threads};
 ghost use Rattle.ls_devices.specs.Ends.{has_cause};
+ghost use Rattle.ls_devices.specs.declared.fault.TheConstants.{READS_END};
 ghost use Rattle.ls_threads.specs.Ends.{has_failed, worked_by, worse};
 ghost use Rattle.ls_threads.specs.Input.{HasHeard};
 ghost use Rattle.ls_threads.specs.Served.{IsServed};
 ghost use Rattle.ls_threads.specs.Writing.{HasWritten, SaysTheRest, WritesFrames};
 
 use crate::ending::{Early, Worked, Wrote, has_met_full_session, result_of};
-use crate::halt::halt;
 use crate::reading::Reader;
 use crate::settling::is_settled;
 use crate::working::work_on;
 use crate::writing::{Writer, Writes, Written, write_rest};
-use ls_desk::{Desk, DeskFault};
-use ls_devices::{ReaderEnd, ServeFault, Sink, Source};
+use ls_desk::{Desk, DeskFault, MOST_EVENTS, MOST_JOURNAL};
+use ls_devices::{READS_END, ReaderEnd, ServeFault, Sink, Source};
 use ls_session::{Session, Status};
 use ls_workers::{Blanks, Board, ClientSeat, Crew, Gate, Stop, WorkerSeat};
 use std::alloc::Global;
 use std::marker::Brand;
 use std::snapshot::Snapshot;
 use std::sync::Wait;
-use std::sync::atomic::AtomicU64;
 use std::thread;
-use std::thread::Threads;
-
-/// The most events that the desk's journal may have where a client's event comes to it.
-const MOST_JOURNAL: usize = 1_000_000;
-
-/// The most events and unsent replies of a session, together.
-const MOST_EVENTS: u64 = 18_446_744_073_709_551_614;
+use std::thread::{Scope, Threads};
 
 /// The mark of the board. A run has one.
 const MARK: u64 = 1;
 
 /// How large a run is.
-#[derive(Clone, Copy, Debug, Drop, PartialEq, Eq)]
+#[derive(Clone, Copy, Drop)]
 pub struct Limits {
     /// How many workers there are: 1 to 8.
     pub workers: u32,
@@ -74,8 +67,6 @@ struct Run<'a, C: Crew, R, G> {
     alloc: Global,
     board: &'a Board<C>,
     gate: &'a G,
-    /// Raised where the run ends for all.
-    halted: &'a AtomicU64,
 }
 
 /// What the reader leaves, and how it ended.
@@ -84,7 +75,7 @@ struct ReadUp<C: Crew, I: Source> {
     seat: ClientSeat<C>,
     source: I,
     end: ReaderEnd<Early>,
-    ghost cause: { has_cause end (I.failed source) (I.reads source) 1099511627776 ≡ true },
+    ghost cause: { has_cause end (I.failed source) (I.reads source) READS_END ≡ true },
 }
 
 /// The reader and its source, before the first read.
@@ -112,14 +103,14 @@ impl<C: Crew, R: Wait, I: Source> Unread<'_, C, R, I> {
         let Reader {
             rt,
             board,
-            halted,
             seat,
             ..
         } = reader;
-        match end {
-            ReaderEnd::Ended(_) => board.stop(rt, Stop::Drain),
-            ReaderEnd::Failed | ReaderEnd::Broken(_) => halt(rt, board, halted),
-        }
+        let stop = match end {
+            ReaderEnd::Ended(_) => Stop::Drain,
+            ReaderEnd::Failed | ReaderEnd::Broken(_) => Stop::Now,
+        };
+        board.stop(rt, stop);
         ReadUp { seat, source, end }
     }
 
@@ -177,8 +168,62 @@ fn put_back<C: Crew>(
     worked.and(Worked::by(fault))
 }
 
-/// Reads here while the workers work, each in a thread of its own. Room for what they leave is made before the first starts. Where a thread
-/// can't be made the board is ended, and its worker, which then finds nothing to do, gives its seat back here.
+/// Reads here while the workers work, each in a thread of its own, of this scope. Room for what they leave is made before the first starts.
+/// Where a thread can't be made the board is ended, and its worker, which then finds nothing to do, gives its seat back here.
+fn work_within<
+    's,
+    'a: 's,
+    C: Crew + Send + Sync,
+    R: Threads + Wait + Sync,
+    I: Source + Drop,
+    G: Gate + Sync,
+>(
+    scope: &Scope<'s, &'a ()>,
+    run: &Run<'a, C, R, G>,
+    unread: Unread<'a, C, R, I>,
+    seats: Vec<WorkerSeat<C>>,
+) -> Done<C, I>
+    ensures { HasHeard (I.remaining unread.entry.source) (I.remaining result.read.source) unread.entry.reader.session (heard_of unread.entry.reader.seat.front) result.read.end (heard_of result.read.seat.front) }
+{
+    let Run {
+        rt,
+        alloc,
+        board,
+        gate,
+    } = *run;
+    let (Ok(mut handles), Ok(mut workers)) = (
+        Vec::with_capacity(alloc, seats.len()),
+        Vec::with_capacity(alloc, seats.len()),
+    ) else {
+        board.stop(rt, Stop::Now);
+        return Done::nothing(unread, seats);
+    };
+    let mut seats = seats;
+    let mut worked = Worked::All;
+    let mut made = true;
+    'seats: while let Some(seat) = seats.pop() {
+        match scope.spawn(move || work_on(rt, alloc, board, seat, gate)) {
+            Ok(handle) => handles.push_reserved(handle),
+            Err(refused) => {
+                board.stop(rt, Stop::Now);
+                made = false;
+                worked = put_back(&mut workers, worked, (refused.value)());
+            }
+        }
+    }
+    let read = unread.read_up(made);
+    'handles: while let Some(handle) = handles.pop() {
+        worked = put_back(&mut workers, worked, handle.join(rt));
+    }
+    Done {
+        read,
+        workers,
+        worked,
+        made,
+    }
+}
+
+/// Reads here while the workers work, in a scope of theirs.
 fn read_and_work<
     'a,
     C: Crew + Send + Sync,
@@ -188,50 +233,12 @@ fn read_and_work<
 >(run: &Run<'a, C, R, G>, unread: Unread<'a, C, R, I>, seats: Vec<WorkerSeat<C>>) -> Done<C, I>
     ensures { HasHeard (I.remaining unread.entry.source) (I.remaining result.read.source) unread.entry.reader.session (heard_of unread.entry.reader.seat.front) result.read.end (heard_of result.read.seat.front) }
 {
-    let Run {
-        rt,
-        alloc,
-        board,
-        gate,
-        halted,
-    } = *run;
     thread::scope(
         thread::scope_env(),
-        rt,
+        run.rt,
         |scope| -> Done<C, I>
             ensures { HasHeard (I.remaining unread.entry.source) (I.remaining result.read.source) unread.entry.reader.session (heard_of unread.entry.reader.seat.front) result.read.end (heard_of result.read.seat.front) }
-        {
-            let (Ok(mut handles), Ok(mut workers)) = (
-                Vec::with_capacity(alloc, seats.len()),
-                Vec::with_capacity(alloc, seats.len()),
-            ) else {
-                halt(rt, board, halted);
-                return Done::nothing(unread, seats);
-            };
-            let mut seats = seats;
-            let mut worked = Worked::All;
-            let mut made = true;
-            'seats: while let Some(seat) = seats.pop() {
-                match scope.spawn(move || work_on(rt, alloc, board, seat, gate, halted)) {
-                    Ok(handle) => handles.push_reserved(handle),
-                    Err(refused) => {
-                        halt(rt, board, halted);
-                        made = false;
-                        worked = put_back(&mut workers, worked, (refused.value)());
-                    }
-                }
-            }
-            let read = unread.read_up(made);
-            'handles: while let Some(handle) = handles.pop() {
-                worked = put_back(&mut workers, worked, handle.join(rt));
-            }
-            Done {
-                read,
-                workers,
-                worked,
-                made,
-            }
-        },
+        { work_within(scope, run, unread, seats) },
     )
 }
 
@@ -265,7 +272,6 @@ fn run_threads<
         rt,
         alloc,
         board,
-        halted,
         ..
     } = *run;
     thread::scope(
@@ -278,14 +284,14 @@ fn run_threads<
             ensures heard { HasHeard (I.remaining unread.entry.source) (I.remaining result.done.read.source) unread.entry.reader.session (heard_of unread.entry.reader.seat.front) result.done.read.end (heard_of result.done.read.seat.front) }
         {
             let promise = Writes(Snapshot::of(&writer.sink));
-            match scope.spawn_with(promise, move || writer.write_on(rt, alloc, board, halted)) {
+            match scope.spawn_with(promise, move || writer.write_on(rt, alloc, board)) {
                 Ok(writing) => {
                     let done = read_and_work(run, unread, seats);
                     let written = writing.join(rt);
                     Ran { done, written }
                 }
                 Err(refused) => {
-                    halt(rt, board, halted);
+                    board.stop(rt, Stop::Now);
                     let written = (refused.value)();
                     let done = Done::nothing(unread, seats);
                     Ran { done, written }
@@ -336,7 +342,7 @@ fn closed<C: Crew, I: Source + Drop, W: Sink + Drop>(
     requires limit { C.max_events ≡ MOST_EVENTS }
     requires written { HasWritten (W.contents begun.value) (W.contents ran.written.sink) (W.unflushed begun.value) (W.unflushed ran.written.sink) ran.written.end (outs_of ran.written.seat.front) }
     requires heard { HasHeard (I.remaining input.value) (I.remaining ran.done.read.source) BeforeInitialize [] ran.done.read.end (heard_of ran.done.read.seat.front) }
-    ensures read { result.answer ≡ Err ServeFault.Read → (I.failed result.source || (I.reads result.source + 1 == 1099511627776)) ≡ true }
+    ensures read { result.answer ≡ Err ServeFault.Read → (I.failed result.source || (I.reads result.source + 1 == READS_END)) ≡ true }
     ensures write { result.answer ≡ Err ServeFault.Write → W.failed result.sink ≡ true }
     ensures good { OnOk result.answer (W.failed result.sink ≡ false) }
     ensures frames { WritesFrames (W.failed result.sink) (I.remaining input.value) (I.remaining result.source) (W.contents begun.value) (W.contents result.sink) }
@@ -349,7 +355,7 @@ fn closed<C: Crew, I: Source + Drop, W: Sink + Drop>(
           sum_by (λ seat. seat.returned.share.amount) ran.done.workers.items,
           sum_by (λ seat. seat.finished.share.amount) ran.done.workers.items,
           ran.written.seat.sent.share.amount,
-        ) (told_by ran.done.read.seat.told)
+        ) (logged_by ran.done.read.seat.audit_log)
         (ran.written.seat.checkpoints, ran.written.seat.tickets.items)) (W.failed result.sink) result.answer }
     ensures served { IfOk result.answer (λ status. IsServed C.max_journal C.max_events status (I.remaining input.value) (I.remaining result.source) (W.contents begun.value) (W.contents result.sink)) }
 {
@@ -418,7 +424,7 @@ fn run_session<
     requires none { I.reads devices.source ≡ 0 }
     requires source { I.failed devices.source ≡ false }
     requires sink { W.failed devices.sink ≡ false }
-    ensures read { result.answer ≡ Err ServeFault.Read → (I.failed result.source || (I.reads result.source + 1 == 1099511627776)) ≡ true }
+    ensures read { result.answer ≡ Err ServeFault.Read → (I.failed result.source || (I.reads result.source + 1 == READS_END)) ≡ true }
     ensures write { result.answer ≡ Err ServeFault.Write → W.failed result.sink ≡ true }
     ensures good { OnOk result.answer (W.failed result.sink ≡ false) }
     ensures frames { WritesFrames (W.failed result.sink) (I.remaining devices.source) (I.remaining result.source) (W.contents devices.sink) (W.contents result.sink) }
@@ -439,12 +445,10 @@ fn run_session<
     let input = Snapshot::of(&source);
     let begun = Snapshot::of(&sink);
     let session = Session::new(alloc);
-    let halted = AtomicU64::new(0);
     let reader = Reader {
         rt,
         alloc,
         board: &board,
-        halted: &halted,
         seat: client,
         session,
     };
@@ -453,7 +457,6 @@ fn run_session<
         alloc,
         board: &board,
         gate,
-        halted: &halted,
     };
     let unread = Unread { reader, source };
     let writer = Writer { seat: writer, sink };
@@ -480,7 +483,7 @@ fn run_session<
 /// # Errors
 ///
 /// The answer of what it gives is, of those that hold, the first of these. `Read`: the source failed, or was read one time less than
-/// [`ls_devices::READS_END`]. `Write`: the sink failed. `Strayed`: the board wasn't closed, or the desk didn't know what ran. `Memory`: an
+/// [`READS_END`]. `Write`: the sink failed. `Strayed`: the board wasn't closed, or the desk didn't know what ran. `Memory`: an
 /// allocation was refused. `Strayed`: something was left undone. Where a thread couldn't be made it is `Memory`, whatever else holds.
 pub fn serve_threads<
     R: Threads + Wait + Sync,
@@ -492,7 +495,7 @@ pub fn serve_threads<
     requires none { I.reads source ≡ 0 }
     requires source { I.failed source ≡ false }
     requires sink { W.failed sink ≡ false }
-    ensures read { result.answer ≡ Err ServeFault.Read → (I.failed result.source || (I.reads result.source + 1 == 1099511627776)) ≡ true }
+    ensures read { result.answer ≡ Err ServeFault.Read → (I.failed result.source || (I.reads result.source + 1 == READS_END)) ≡ true }
     ensures write { result.answer ≡ Err ServeFault.Write → W.failed result.sink ≡ true }
     ensures good { OnOk result.answer (W.failed result.sink ≡ false) }
     ensures frames { WritesFrames (W.failed result.sink) (I.remaining source) (I.remaining result.source) (W.contents sink) (W.contents result.sink) }
@@ -522,7 +525,7 @@ pub fn serve_with_limits<
     requires none { I.reads source ≡ 0 }
     requires source { I.failed source ≡ false }
     requires sink { W.failed sink ≡ false }
-    ensures read { result.answer ≡ Err ServeFault.Read → (I.failed result.source || (I.reads result.source + 1 == 1099511627776)) ≡ true }
+    ensures read { result.answer ≡ Err ServeFault.Read → (I.failed result.source || (I.reads result.source + 1 == READS_END)) ≡ true }
     ensures write { result.answer ≡ Err ServeFault.Write → W.failed result.sink ≡ true }
     ensures good { OnOk result.answer (W.failed result.sink ≡ false) }
     ensures frames { WritesFrames (W.failed result.sink) (I.remaining source) (I.remaining result.source) (W.contents sink) (W.contents result.sink) }

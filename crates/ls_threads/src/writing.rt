@@ -1,21 +1,19 @@
 //! What the writer's thread does.
 ghost use Rattle.std.specs.Prelude.{◌≡◌, [], false};
 ghost use Rattle.std.specs.Io.KnownBytes.{Appends};
-ghost use Rattle.ls_devices.specs.Devices.{AppendsFront};
+ghost use Rattle.ls_devices.specs.Devices.{AppendsPrefix};
 ghost use Rattle.ls_history.specs.Told.{outs_of};
 ghost use Rattle.ls_threads.specs.Ends.{has_failed};
 ghost use Rattle.ls_threads.specs.Writing.{HasTold, HasWritten, frame_for};
 
 use crate::ending::Wrote;
-use crate::halt::halt;
 use ls_desk::{Desk, Out};
 use ls_devices::{Sink, write_and_flush};
 use ls_session::framed;
-use ls_workers::{Board, Crew, WriterSeat};
+use ls_workers::{Board, Crew, Stop, WriterSeat};
 use std::alloc::Global;
 use std::snapshot::Snapshot;
 use std::sync::Wait;
-use std::sync::atomic::AtomicU64;
 use std::thread::Promise;
 
 /// The writer's seat, and its sink.
@@ -49,7 +47,7 @@ pub fn put<W: Sink>(alloc: Global, sink: &mut W, out: Out) -> Wrote
     requires { W.failed sink.old ≡ false }
     ensures failed { W.failed sink.new ≡ has_failed result }
     ensures all { result ≡ Wrote.All → Appends (W.contents sink.old) (W.contents sink.new) (frame_for out) }
-    ensures front { AppendsFront (W.contents sink.old) (W.contents sink.new) (frame_for out) }
+    ensures front { AppendsPrefix (W.contents sink.old) (W.contents sink.new) (frame_for out) }
     ensures none { result ≡ Wrote.Memory → Appends (W.contents sink.old) (W.contents sink.new) [] }
     ensures flushed { W.unflushed sink.old ≡ false → has_failed result ≡ false → W.unflushed sink.new ≡ false }
 {
@@ -68,13 +66,7 @@ impl<C: Crew, W: Sink> Writer<C, W> {
     /// Writes what is said until there is nothing more. A fault ends the run for all.
     ///
     /// It waits for replies, and for the lock.
-    pub fn write_on<R: Wait>(
-        self,
-        rt: &R,
-        alloc: Global,
-        board: &Board<C>,
-        halted: &AtomicU64,
-    ) -> Written<C, W>
+    pub fn write_on<R: Wait>(self, rt: &R, alloc: Global, board: &Board<C>) -> Written<C, W>
         requires none { outs_of self.seat.front ≡ [] }
         ensures { HasWritten (W.contents self.sink) (W.contents result.sink) (W.unflushed self.sink) (W.unflushed result.sink) result.end (outs_of result.seat.front) }
     {
@@ -90,7 +82,7 @@ impl<C: Crew, W: Sink> Writer<C, W> {
                     };
                 }
                 Err(_) => {
-                    halt(rt, board, halted);
+                    board.stop(rt, Stop::Now);
                     return Written {
                         seat,
                         sink,
@@ -102,7 +94,7 @@ impl<C: Crew, W: Sink> Writer<C, W> {
             match end {
                 Wrote::All => {}
                 Wrote::Failed | Wrote::Memory => {
-                    halt(rt, board, halted);
+                    board.stop(rt, Stop::Now);
                     return Written { seat, sink, end };
                 }
             }

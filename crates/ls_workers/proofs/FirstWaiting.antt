@@ -8,7 +8,7 @@ use Rattle.std.specs.List.{position_or_len}
 use Rattle.ls_machine.specs.Machine.{is_queued}
 use Rattle.ls_desk.specs.Stands.{Seen, state_of}
 use Rattle.ls_workers.specs.Ends.{IsFirstWaiting, first_waiting, has_job, has_job_for, is_first, is_this_number}
-use Rattle.ls_history.specs.declared.happened.Stop.{Stop}
+use Rattle.ls_history.specs.declared.history_entry.Stop.{Stop}
 
 within : (idle : List Bool) (k : ℕ) → get_or idle k false ≡ true → k < length idle
 within [] k waits = absurd (cc)

@@ -21,8 +21,8 @@ use Rattle.ls_desk.specs.Faults.{finish_fault, or_else}
 use Rattle.ls_history.specs.History.{IsLegal, IsLegalFrom, IsRoomy, MayHappen, replay}
 use Rattle.ls_history.specs.Places.{Place, beginning, happens}
 use Rattle.ls_history.specs.Told.{events_of}
-use Rattle.ls_history.specs.declared.happened.Happened.{Happened}
-use Rattle.ls_history.specs.declared.happened.Happened.TheVariants.{Worked}
+use Rattle.ls_history.specs.declared.history_entry.HistoryEntry.{HistoryEntry}
+use Rattle.ls_history.specs.declared.history_entry.HistoryEntry.TheVariants.{Worked}
 use Rattle.ls_history.proofs.Histories.{legal_before, replay_more}
 use Rattle.ls_history.proofs.Journals.{histories_journals}
 use Rattle.ls_workers.specs.Jobs.{IsFinishedAt, IsNotHeld, IsRefusedAt, led_by}
@@ -93,7 +93,7 @@ limit_is (Some most) n some within = (most, refl)
 one_more : (c : Counts) (ticket : ℕ) (failed : Bool) → 0 < total (count_one c (Finished ticket failed))
 one_more c ticket failed = omega arith
 
-last_may : (p : Place) (xs : List Happened) (h : Happened) → IsLegalFrom p (xs ++ h ∷ []) → MayHappen (replay p xs) h
+last_may : (p : Place) (xs : List HistoryEntry) (h : HistoryEntry) → IsLegalFrom p (xs ++ h ∷ []) → MayHappen (replay p xs) h
 last_may p [] h legal = legal.0
 last_may p (x ∷ xs) h legal = last_may (happens p x) xs h legal.1
 
@@ -102,7 +102,7 @@ unfolding step
 finished_from p js high ticket failed rise = gone js 1 high ticket p.state.waiting rise
 
 -- a job that has run is held no more
-finished_gone : (ticket : ℕ) (failed : Bool) (before new : List Happened) → new ≡ before ++ Worked (Finished ticket failed) ∷ [] → IsLegal new → IsNotHeld ticket new
+finished_gone : (ticket : ℕ) (failed : Bool) (before new : List HistoryEntry) → new ≡ before ++ Worked (Finished ticket failed) ∷ [] → IsLegal new → IsNotHeld ticket new
 finished_gone ticket failed before new is legal =
     let h = Worked (Finished ticket failed) in
     let p = led_by before in
@@ -118,7 +118,7 @@ finished_gone ticket failed before new is legal =
     let led : led_by new ≡ happens p h = ap led_by is ∙ replay_more beginning before (h ∷ []) in
     subst (λ (q : Place). find (is_held ticket) q.state.waiting ≡ None) (sym led) (finished_from p js (journal.replay js).next_ticket ticket failed (subst Rises run.state_is rise))
 
-pub finished_not_held : (done : Told) (kept : Kept) (old new : List Happened) → IsFinishedAt done kept old new → IsLegal new → IsNotHeld done.ticket new
+pub finished_not_held : (done : Told) (kept : Kept) (old new : List HistoryEntry) → IsFinishedAt done kept old new → IsLegal new → IsNotHeld done.ticket new
 finished_not_held done kept old new finished legal = finished_gone done.ticket (is_none done.answer) finished.before new finished.ends legal
 
 -- ---- where the desk doesn't know the ticket
@@ -139,7 +139,7 @@ unknown_is : (a b c : Bool) → or_else a UnknownTicket (or_else b OtherText (or
 unknown_is true b c e = refl
 unknown_is false b c e = absurd (other_is b c e)
 
-pub unknown_not_held : (done : Told) (log : List Happened) (fault : DeskFault) → IsRefusedAt (λ desk. finish_fault desk done) fault log → fault ≡ UnknownTicket → IsNotHeld done.ticket log
+pub unknown_not_held : (done : Told) (log : List HistoryEntry) (fault : DeskFault) → IsRefusedAt (λ desk. finish_fault desk done) fault log → fault ≡ UnknownTicket → IsNotHeld done.ticket log
 unfolding replay_from
 unknown_not_held done log fault cause is =
     elim cause [ inl e ↦ is_none_so _ (unknown_is _ _ _ (e ∙ ap Some is)) | inr n ↦ absurd (let m : Memory ≡ UnknownTicket = sym n.1 ∙ is in cc (m)) ]

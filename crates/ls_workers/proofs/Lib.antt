@@ -3,7 +3,7 @@ pub mod Compared
 pub mod Entered
 pub mod Entering
 pub mod FirstWaiting
-pub mod Hearing
+pub mod Logging
 pub mod Held
 pub mod Numbers
 pub mod Placed

@@ -3,8 +3,8 @@ use Rattle.std.specs.Prelude.{ℕ, ◌≡◌, ◌<◌, List, length, slice_index
 use Rattle.std.specs.List.{position}
 use Rattle.ls_machine.specs.Machine.{is_queued}
 use Rattle.ls_desk.specs.Stands.{Seen, state_of}
-use Rattle.ls_history.specs.declared.happened.Stop.{Stop}
-use Rattle.ls_history.specs.declared.happened.Stop.TheVariants.{Drain, Now}
+use Rattle.ls_history.specs.declared.history_entry.Stop.{Stop}
+use Rattle.ls_history.specs.declared.history_entry.Stop.TheVariants.{Drain, Now}
 
 -- A worker has nothing to wait for: a job is queued, or the board has ended.
 abbrev pub has_job : Option Stop → Seen → Bool

@@ -9,15 +9,15 @@ use Rattle.ls_machine.specs.declared.client.ClientEvent.{ClientEvent}
 use Rattle.ls_machine.specs.declared.client.ClientAnswer.{ClientAnswer}
 use Rattle.ls_machine.specs.declared.event.DeskFault.{DeskFault}
 use Rattle.ls_machine.specs.declared.event.Out.{Out}
-use Rattle.ls_history.specs.declared.happened.Happened.{Happened}
-use Rattle.ls_history.specs.declared.happened.Happened.TheVariants as happened
+use Rattle.ls_history.specs.declared.history_entry.HistoryEntry.{HistoryEntry}
+use Rattle.ls_history.specs.declared.history_entry.HistoryEntry.TheVariants as entry
 use Rattle.ls_history.specs.History.{HasLedTo, IsHistoryOf, IsLegal}
 use Rattle.ls_history.specs.Told.{heard_of, outs_of}
 use Rattle.ls_workers.specs.Jobs.{HasLimits}
 use Rattle.ls_workers.specs.declared.ended.Ended.{Ended}
-use Rattle.ls_workers.specs.declared.seats.ToldClient as held
-use Rattle.ls_workers.specs.declared.behind.SeatFault.{SeatFault}
-use Rattle.ls_workers.specs.declared.behind.SeatFault.TheVariants.{SeatMissing, Strayed}
+use Rattle.ls_workers.specs.declared.audit_log.AuditLog as held
+use Rattle.ls_workers.specs.declared.board_state.SeatFault.{SeatFault}
+use Rattle.ls_workers.specs.declared.board_state.SeatFault.TheVariants.{SeatMissing, Strayed}
 
 -- The workers' seats, by what their mark and their number are: each has the board's mark, there are as many as it has workers, and each
 -- number below that is there once.
@@ -46,40 +46,40 @@ AreSame ended = client_events ended.journal.items ≡ ended.list.items
 
 -- what a client's seat knows: the events since the last checkpoint with their answers, the number of checkpoints, whether a difference was
 -- found, and what of earlier lists and of their journals isn't compared yet
-pub record ToldClient : Type 0 where
+pub record AuditLog : Type 0 where
   pub list : List Event
   pub checkpoints : ℕ
   pub strayed : Bool
   pub ended : List Ended
 
 -- nothing yet
-abbrev pub told_nothing : ToldClient
-told_nothing = record { list = []; checkpoints = 0; strayed = false; ended = [] }
+abbrev pub logged_nothing : AuditLog
+logged_nothing = record { list = []; checkpoints = 0; strayed = false; ended = [] }
 
 -- the same, of what a seat holds
-abbrev pub told_by : held.ToldClient → ToldClient
-told_by told = record { list = told.list.items; checkpoints = told.checkpoints; strayed = told.strayed; ended = told.ended.items }
+abbrev pub logged_by : held.AuditLog → AuditLog
+logged_by log = record { list = log.list.items; checkpoints = log.checkpoints; strayed = log.strayed; ended = log.ended.items }
 
 -- No difference was found, and there is none in what isn't compared yet.
-abbrev pub HasAgreed : ToldClient → Type 0
-HasAgreed told = (told.strayed ≡ false) × All AreSame told.ended
+abbrev pub HasAgreed : AuditLog → Type 0
+HasAgreed log = (log.strayed ≡ false) × All AreSame log.ended
 
 -- Nothing has come to a seat, though some of what had ended may have been compared: there is a difference exactly where there was.
-pub record KnowsTheSame (old new : ToldClient) : Type 0 where
+pub record KnowsTheSame (old new : AuditLog) : Type 0 where
   pub list : new.list ≡ old.list
   pub checkpoints : new.checkpoints ≡ old.checkpoints
   pub agreed : HasAgreed new ↔ HasAgreed old
 
 -- An entry needs no memory any more, whether its event makes a checkpoint or not.
-pub record HasRoom (told : held.ToldClient) : Type 0 where
-  pub list : vec_len told.list < vec_capacity told.list
-  pub spare : vec_len told.spare < vec_capacity told.spare
-  pub ended : vec_len told.ended < vec_capacity told.ended
+pub record HasRoom (log : held.AuditLog) : Type 0 where
+  pub list : vec_len log.list < vec_capacity log.list
+  pub spare : vec_len log.spare < vec_capacity log.spare
+  pub ended : vec_len log.ended < vec_capacity log.ended
 
 -- An event with its answer comes to the journal and to the seat's list. Where the event makes a checkpoint, list and journal begin anew
 -- with it. It is a difference where the journal's last entry is another, or where the list that ends isn't the client's events of the
 -- journal that ends.
-pub record Heard (e : ClientEvent) (answer : ClientAnswer) (before after : Seen) (old new : ToldClient) : Type 0 where
+pub record Logs (e : ClientEvent) (answer : ClientAnswer) (before after : Seen) (old new : AuditLog) : Type 0 where
   pub journal : Notes e answer (journal_after (fresh before) before.journal) after.journal
   pub base : after.base ≡ base_after (fresh before) (counts_of before) before.base
   pub list : Notes e answer (if is_long before then [] else old.list) new.list
@@ -88,34 +88,34 @@ pub record Heard (e : ClientEvent) (answer : ClientAnswer) (before after : Seen)
 
 -- The same, by the history that the seat has seen then. It has led to the desk after the event, and up to its last entry, which is the
 -- event's, it had led to the desk before, which has these limits.
-pub record IsHeard (e : ClientEvent) (answer : ClientAnswer) (journal events : ℕ) (old new : ToldClient) (log : List Happened) : Type 0 where
+pub record IsLogged (e : ClientEvent) (answer : ClientAnswer) (journal events : ℕ) (old new : AuditLog) (log : List HistoryEntry) : Type 0 where
   pub before : Seen
   pub after : Seen
-  pub earlier : List Happened
-  pub log_is : log ≡ earlier ++ happened.Heard e (Ok answer) ∷ []
+  pub earlier : List HistoryEntry
+  pub log_is : log ≡ earlier ++ entry.Heard e (Ok answer) ∷ []
   pub led_before : HasLedTo before earlier
   pub led_after : HasLedTo after log
   pub limits : HasLimits journal events before
-  pub heard : Heard e answer before after old new
+  pub logs : Logs e answer before after old new
 
 -- What the seats know is what the desk's journal has: the client's events and the tickets since the last checkpoint; and there have been as
 -- many checkpoints as the client's seat has seen.
-abbrev pub AgreesAll : Seen → ToldClient → ℕ → List ℕ → Type 0
+abbrev pub AgreesAll : Seen → AuditLog → ℕ → List ℕ → Type 0
 AgreesAll desk client seen tickets =
     Agrees desk.journal client.list (since desk.base.checkpoints seen tickets) × (desk.base.checkpoints ≡ client.checkpoints)
 
 -- One legal history led to the desk. It has these events of the client, each with its answer or its refusal, and these replies, and no
 -- others.
 abbrev pub HasHistory : List (ClientEvent × Result ClientAnswer DeskFault) → List Out → Seen → Type 0
-HasHistory heard outs desk = (log : List Happened) × IsHistoryOf desk log × (heard_of log ≡ heard) × (outs_of log ≡ outs)
+HasHistory heard outs desk = (log : List HistoryEntry) × IsHistoryOf desk log × (heard_of log ≡ heard) × (outs_of log ≡ outs)
 
 -- One legal history has these events of the client, each with its answer or its refusal, and these replies, and no others, wherever it has
 -- led.
 abbrev pub HaveHistory : List (ClientEvent × Result ClientAnswer DeskFault) → List Out → Type 0
-HaveHistory heard outs = (log : List Happened) × IsLegal log × (heard_of log ≡ heard) × (outs_of log ≡ outs)
+HaveHistory heard outs = (log : List HistoryEntry) × IsLegal log × (heard_of log ≡ heard) × (outs_of log ≡ outs)
 
 -- Why a board isn't closed. `SeatMissing`: the seats aren't all its own. `Strayed`: they are, the desk that it carries has their counts,
 -- and a difference was found or is there in what had ended, or what the seats know isn't what its journal has now.
-abbrev pub HasCause : Type 0 → (Seen → Type 0) → ToldClient → ℕ → List ℕ → SeatFault → Type 0
+abbrev pub HasCause : Type 0 → (Seen → Type 0) → AuditLog → ℕ → List ℕ → SeatFault → Type 0
 HasCause AreOwn HasCounts client seen tickets SeatMissing = AreOwn → ⊥
 HasCause AreOwn HasCounts client seen tickets (Strayed desk) = AreOwn × HasCounts desk × (HasAgreed client × AgreesAll desk client seen tickets → ⊥)

@@ -2,12 +2,12 @@
 ghost use Rattle.std.specs.Prelude.{◌≡◌, ◌↔◌, ◌-◌, All, IsTrue, Some, length, slice_get, true, false};
 ghost use Rattle.std.specs.Option.{option_map};
 ghost use Rattle.ls_machine.specs.Client.{client_event, client_events, sent_ticket, sent_tickets};
-ghost use Rattle.ls_workers.specs.Seats.{Agrees, AgreesAll, AreSame, HasAgreed, since, told_by};
+ghost use Rattle.ls_workers.specs.Seats.{Agrees, AgreesAll, AreSame, HasAgreed, since, logged_by};
 
+use crate::audit_log::AuditLog;
 use crate::ended::Ended;
-use crate::same::same_event;
-use crate::seats::ToldClient;
 use ls_desk::{Desk, Event};
+use ls_machine::same_event;
 
 /// The event where it is a client's.
 pub fn client_event(event: &Event) -> Option<&Event>
@@ -102,11 +102,11 @@ fn since<'t>(desk: &Desk, seen: u64, tickets: &'t [u64]) -> &'t [u64]
 }
 
 /// Whether what the seats know is what the journal of a desk has, and how many checkpoints there were.
-fn agrees_all(desk: &Desk, told: &ToldClient, seen: u64, tickets: &[u64]) -> bool
-    ensures { IsTrue result ↔ AgreesAll desk.now (told_by told.now) seen tickets.now }
+fn agrees_all(desk: &Desk, audit_log: &AuditLog, seen: u64, tickets: &[u64]) -> bool
+    ensures { IsTrue result ↔ AgreesAll desk.now (logged_by audit_log.now) seen tickets.now }
 {
     let tickets = since(desk, seen, tickets);
-    agrees(desk.journal(), &told.list, tickets) && desk.checkpoints() == told.checkpoints
+    agrees(desk.journal(), &audit_log.list, tickets) && desk.checkpoints() == audit_log.checkpoints
 }
 
 /// Whether each list that ended with a journal is the client's events of it.
@@ -122,16 +122,16 @@ fn ended_agree(ended: &[Ended]) -> bool
 }
 
 /// Whether no difference was found in what a client's seat knows, and there is none in what isn't compared yet.
-fn has_agreed(told: &ToldClient) -> bool
-    ensures { IsTrue result ↔ HasAgreed (told_by told.now) }
+fn has_agreed(audit_log: &AuditLog) -> bool
+    ensures { IsTrue result ↔ HasAgreed (logged_by audit_log.now) }
 {
-    !told.strayed && ended_agree(&told.ended)
+    !audit_log.strayed && ended_agree(&audit_log.ended)
 }
 
 /// Whether what the seats know isn't what the journal of a desk has, or a difference was found or is there in what had ended.
-pub fn strays(desk: &Desk, told: &ToldClient, seen: u64, tickets: &[u64]) -> bool
-    ensures some { result ≡ true → HasAgreed (told_by told.now) × AgreesAll desk.now (told_by told.now) seen tickets.now → ⊥ }
-    ensures none { result ≡ false → HasAgreed (told_by told.now) × AgreesAll desk.now (told_by told.now) seen tickets.now }
+pub fn strays(desk: &Desk, audit_log: &AuditLog, seen: u64, tickets: &[u64]) -> bool
+    ensures some { result ≡ true → HasAgreed (logged_by audit_log.now) × AgreesAll desk.now (logged_by audit_log.now) seen tickets.now → ⊥ }
+    ensures none { result ≡ false → HasAgreed (logged_by audit_log.now) × AgreesAll desk.now (logged_by audit_log.now) seen tickets.now }
 {
-    !has_agreed(told) || !agrees_all(desk, told, seen, tickets)
+    !has_agreed(audit_log) || !agrees_all(desk, audit_log, seen, tickets)
 }

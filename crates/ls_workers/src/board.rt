@@ -4,21 +4,22 @@ ghost use mathlib.Core.List.{IsPrefix};
 ghost use Rattle.ls_machine.specs.Machine.{waits};
 ghost use Rattle.ls_desk.specs.Faults.{finish_fault, give_back_fault, take_fault};
 ghost use Rattle.ls_desk.specs.Stands.{ticket_of_out};
+ghost use Rattle.ls_history.specs.Ends.{is_over, stop_of};
 ghost use Rattle.ls_history.specs.Told.{heard_of, outs_of};
 ghost use Rattle.ls_workers.specs.Count.{Counts};
 ghost use Rattle.ls_workers.specs.Jobs.{HasLimits, HasNoJob, HasNothingMore, IsFinishedAt, IsRefusedAt, IsReturnedAt, IsTakenAt, led_by};
 ghost use Rattle.ls_workers.specs.Refusals.{is_shortage, may_refuse_return, may_refuse_run};
-ghost use Rattle.ls_workers.specs.Seats.{Agrees, AreAll, HasAgreed, HasCause, HasHistory, HaveHistory, IsHeard, KnowsTheSame, since, told_by, told_nothing};
+ghost use Rattle.ls_workers.specs.Seats.{Agrees, AreAll, HasAgreed, HasCause, HasHistory, HaveHistory, IsLogged, KnowsTheSame, since, logged_by, logged_nothing};
 ghost use Rattle.ls_machine.specs.Client.{IsAllowed};
 
-use crate::behind::{Behind, SeatFault};
+use crate::board_state::{BoardState, SeatFault};
 use crate::crew::{are_all, seats_of};
 use crate::lately::Lately;
-use crate::ledgers::{Blanks, Crew, OfClient, OfFinished, OfHeard, OfReturned, OfSent, OfTook};
+use crate::ledgers::{Blanks, Crew};
 use crate::seats::{ClientSeat, WorkerSeat, WriterSeat};
 use ls_answers::{Done, Job};
 use ls_desk::{Desk, DeskFault, Kept, Out};
-use ls_history::{Front, HistoryBook, Stop};
+use ls_history::{Front, Stop};
 use ls_machine::{ClientAnswer, ClientEvent};
 use std::alloc::{AllocError as Memory, Global};
 use std::sync::{Condvar, Mutex, Wait};
@@ -33,9 +34,7 @@ pub struct Board<C: Crew> {
     /// Which board it is. Whoever makes boards gives each a mark of its own.
     mark: u64,
     workers: u32,
-    /// The book of the history of what happens behind the lock.
-    book: HistoryBook<C>,
-    behind: Mutex<Behind<C>>,
+    state: Mutex<BoardState<C>>,
     /// Something behind the lock has changed.
     changed: Condvar,
     /// The texts that were diagnosed last, behind a lock of their own. No other one is taken while it is held.
@@ -67,49 +66,22 @@ impl<C: Crew> Board<C> {
         requires empty { desk.journal ≡ [] }
         requires limits { HasLimits C.max_journal C.max_events desk }
         ensures history { IfOk result (λ made. (heard_of made.1.front ≡ []) × (outs_of made.2.front ≡ [])) }
-        ensures client { IfOk result (λ made. (made.1.mark ≡ mark) × (made.1.asked.share.amount ≡ 0) × (told_by made.1.told ≡ told_nothing)) }
+        ensures client { IfOk result (λ made. (made.1.mark ≡ mark) × (made.1.asked.share.amount ≡ 0) × (logged_by made.1.audit_log ≡ logged_nothing)) }
         ensures writer { IfOk result (λ made. (made.2.mark ≡ mark) × (made.2.sent.share.amount ≡ 0) × (made.2.tickets.items ≡ []) × (made.2.checkpoints ≡ 0)) }
         ensures workers { IfOk result (λ made. AreAll (λ seat. seat.mark) (λ seat. seat.number) mark workers made.3.items) }
         ensures none { IfOk result (λ made. (sum_by (λ seat. seat.took.share.amount) made.3.items ≡ 0) × (sum_by (λ seat. seat.returned.share.amount) made.3.items ≡ 0)
             × (sum_by (λ seat. seat.finished.share.amount) made.3.items ≡ 0)) }
         ensures board { IfOk result (λ made. (made.0.mark ≡ mark) × (made.0.workers ≡ workers)) }
     {
-        let Blanks {
-            client,
-            heard,
-            took,
-            returned,
-            finished,
-            sent,
-            history,
-        } = blanks;
-        let (book, front) = history.named::<C>();
-        let (heard_book, heard) = heard.open::<OfHeard<C>>();
-        let (asked_book, asked) = client.open::<OfClient<C>>();
-        let (took_book, took) = took.open::<OfTook<C>>();
-        let (returned_book, returned) = returned.open::<OfReturned<C>>();
-        let (finished_book, finished) = finished.open::<OfFinished<C>>();
-        let (sent_book, sent) = sent.open::<OfSent<C>>();
-        let seats = seats_of(alloc, mark, workers, took, returned, finished, &front)?;
-        let client = ClientSeat::new(alloc, mark, asked, front.again(), heard);
-        let writer = WriterSeat::new(alloc, mark, sent, front.again());
-        let behind = Behind::new(
-            rt,
-            &book,
-            front,
-            desk,
-            heard_book,
-            asked_book,
-            took_book,
-            returned_book,
-            finished_book,
-            sent_book,
-        );
+        let (books, shares, history) = blanks.open::<C>();
+        let seats = seats_of(alloc, mark, workers, shares.workers, history.front())?;
+        let client = ClientSeat::new(alloc, mark, shares.client, history.seen(), shares.heard);
+        let writer = WriterSeat::new(alloc, mark, shares.sent, history.seen());
+        let state = BoardState::new(rt, history, desk, books);
         let board = Board {
             mark,
             workers,
-            book,
-            behind: Mutex::new(behind),
+            state: Mutex::new(state),
             changed: Condvar::new(),
             lately: Mutex::new(Lately::new()),
         };
@@ -140,17 +112,17 @@ impl<C: Crew> Board<C> {
         requires { IsAllowed event }
         ensures history { heard_of seat.new.front ≡ heard_of seat.old.front ++ (event, result) ∷ [] }
         ensures ok { OnOk result (seat.new.asked.share.amount ≡ seat.old.asked.share.amount + 1) }
-        ensures heard { IfOk result (λ answer. IsHeard event answer C.max_journal C.max_events (told_by seat.old.told) (told_by seat.new.told) seat.new.front) }
-        ensures err { OnErr result ((seat.new.asked.share.amount ≡ seat.old.asked.share.amount) × KnowsTheSame (told_by seat.old.told) (told_by seat.new.told)) }
+        ensures logged { IfOk result (λ answer. IsLogged event answer C.max_journal C.max_events (logged_by seat.old.audit_log) (logged_by seat.new.audit_log) seat.new.front) }
+        ensures err { OnErr result ((seat.new.asked.share.amount ≡ seat.old.asked.share.amount) × KnowsTheSame (logged_by seat.old.audit_log) (logged_by seat.new.audit_log)) }
         ensures mark { seat.new.mark ≡ seat.old.mark }
     {
-        let Ok(note) = seat.told.prepare_note(&event) else {
-            return self.behind.lock(rt).refuse(rt, &self.book, seat, &event);
+        let Ok(note) = seat.audit_log.prepare_note(&event) else {
+            return self.state.lock(rt).refuse(rt, seat, &event);
         };
-        let mut behind = self.behind.lock(rt);
-        let text = behind.desk.text_closed_by(&event).unwrap_or(None);
-        let result = behind.client(rt, &self.book, seat, event, note);
-        drop(behind);
+        let mut state = self.state.lock(rt);
+        let text = state.desk.text_closed_by(&event).unwrap_or(None);
+        let result = state.client(rt, seat, event, note);
+        drop(state);
         self.changed.notify_all();
         if let Ok(ClientAnswer::Closed) = result {
             let gone = self.lately.lock(rt).let_go(&text);
@@ -180,15 +152,15 @@ impl<C: Crew> Board<C> {
         ensures kept { (seat.new.mark ≡ seat.old.mark) × (seat.new.number ≡ seat.old.number) }
     {
         let number = seat.number;
-        let mut behind = self.behind.lock(rt);
-        behind.begin_wait(number);
-        let mut behind = self
+        let mut state = self.state.lock(rt);
+        state.begin_wait(number);
+        let mut state = self
             .changed
-            .wait_while(rt, behind, |behind| !behind.has_job_for(number));
-        behind.end_wait(number);
-        let job = behind.take(rt, &self.book, seat);
-        let has_more = behind.has_job();
-        drop(behind);
+            .wait_while(rt, state, |state| !state.has_job_for(number));
+        state.end_wait(number);
+        let job = state.take(rt, seat);
+        let has_more = state.has_job();
+        drop(state);
         if has_more {
             self.changed.notify_all();
         }
@@ -217,7 +189,7 @@ impl<C: Crew> Board<C> {
         ensures others { (seat.new.took.share.amount ≡ seat.old.took.share.amount) × (seat.new.finished.share.amount ≡ seat.old.finished.share.amount) }
         ensures kept { (seat.new.mark ≡ seat.old.mark) × (seat.new.number ≡ seat.old.number) }
     {
-        let result = self.behind.lock(rt).give_back(rt, &self.book, seat, ticket);
+        let result = self.state.lock(rt).give_back(rt, seat, ticket);
         self.changed.notify_all();
         result
     }
@@ -246,7 +218,7 @@ impl<C: Crew> Board<C> {
         ensures others { (seat.new.took.share.amount ≡ seat.old.took.share.amount) × (seat.new.returned.share.amount ≡ seat.old.returned.share.amount) }
         ensures kept { (seat.new.mark ≡ seat.old.mark) × (seat.new.number ≡ seat.old.number) }
     {
-        let result = self.behind.lock(rt).finish(rt, &self.book, seat, done);
+        let result = self.state.lock(rt).finish(rt, seat, done);
         self.changed.notify_all();
         result
     }
@@ -273,11 +245,11 @@ impl<C: Crew> Board<C> {
         ensures mark { seat.new.mark ≡ seat.old.mark }
     {
         seat.tickets.reserve(1)?;
-        let behind = self.behind.lock(rt);
-        let mut behind = self
+        let state = self.state.lock(rt);
+        let mut state = self
             .changed
-            .wait_while(rt, behind, |behind| !behind.has_news());
-        Ok(behind.next_out(rt, &self.book, seat))
+            .wait_while(rt, state, |state| !state.has_news());
+        Ok(state.next_out(rt, seat))
     }
 
     /// Whether a job with this ticket waits now, queued or taken: where the history has led by now, all of which the front has seen then.
@@ -287,7 +259,17 @@ impl<C: Crew> Board<C> {
         ensures wanted { result ≡ waits ticket (led_by seen.new).state.waiting }
         ensures follows { IsPrefix seen.old seen.new }
     {
-        self.behind.lock(rt).wanted(rt, seen, ticket)
+        self.state.lock(rt).wanted(rt, seen, ticket)
+    }
+
+    /// Whether the board has ended by `Now`: where the history has led by now, all of which the front has seen then.
+    ///
+    /// It waits for the lock alone, and takes no memory.
+    pub fn has_ended(&self, rt: &impl Wait, seen: &mut Front<C>) -> bool
+        ensures ended { result ≡ is_over (stop_of seen.new) }
+        ensures follows { IsPrefix seen.old seen.new }
+    {
+        self.state.lock(rt).has_ended(rt, seen)
     }
 
     /// Ends the board: by `Drain` its seats are served until there is nothing left, by `Now` they are given nothing more. `Now` is final.
@@ -295,7 +277,7 @@ impl<C: Crew> Board<C> {
     ///
     /// It waits for the lock alone, and takes no memory.
     pub fn stop(&self, rt: &impl Wait, stop: Stop) {
-        self.behind.lock(rt).stop(rt, &self.book, stop);
+        self.state.lock(rt).stop(rt, stop);
         self.changed.notify_all();
     }
 
@@ -324,9 +306,9 @@ impl<C: Crew> Board<C> {
         ensures counts { IfOk result (λ desk. Counts client.asked.share.amount (sum_by (λ seat. seat.took.share.amount) workers.items)
             (sum_by (λ seat. seat.returned.share.amount) workers.items) (sum_by (λ seat. seat.finished.share.amount) workers.items)
             writer.sent.share.amount desk) }
-        ensures agrees { IfOk result (λ desk. Agrees desk.journal client.told.list.items (since desk.base.checkpoints writer.checkpoints writer.tickets.items)) }
-        ensures checkpoints { IfOk result (λ desk. desk.base.checkpoints ≡ client.told.checkpoints) }
-        ensures strayed { OnOk result (HasAgreed (told_by client.told)) }
+        ensures agrees { IfOk result (λ desk. Agrees desk.journal client.audit_log.list.items (since desk.base.checkpoints writer.checkpoints writer.tickets.items)) }
+        ensures checkpoints { IfOk result (λ desk. desk.base.checkpoints ≡ client.audit_log.checkpoints) }
+        ensures strayed { OnOk result (HasAgreed (logged_by client.audit_log)) }
         ensures history { IfOk result (HasHistory (heard_of client.front) (outs_of writer.front)) }
         ensures told { HaveHistory (heard_of client.front) (outs_of writer.front) }
         ensures limits { IfOk result (λ desk. HasLimits C.max_journal C.max_events desk) }
@@ -335,19 +317,19 @@ impl<C: Crew> Board<C> {
             (λ desk. Counts client.asked.share.amount (sum_by (λ seat. seat.took.share.amount) workers.items)
             (sum_by (λ seat. seat.returned.share.amount) workers.items) (sum_by (λ seat. seat.finished.share.amount) workers.items)
             writer.sent.share.amount desk × HasLimits C.max_journal C.max_events desk)
-            (told_by client.told) writer.checkpoints writer.tickets.items fault) }
+            (logged_by client.audit_log) writer.checkpoints writer.tickets.items fault) }
     {
         let mut client = client;
         let mut writer = writer;
         let own = client.mark == self.mark && writer.mark == self.mark;
         let all = own && are_all(&workers, self.mark, self.workers);
-        let Board { behind, .. } = self;
-        let mut behind = behind.into_inner();
-        behind.audit_seats(&mut client, &mut writer);
+        let Board { state, .. } = self;
+        let mut state = state.into_inner();
+        state.audit_seats(&mut client, &mut writer);
         if !all {
             return Err(SeatFault::SeatMissing);
         }
-        match behind.closed(client, writer, workers) {
+        match state.closed(client, writer, workers) {
             Ok(desk) => Ok(desk),
             Err(desk) => Err(SeatFault::Strayed(desk)),
         }

@@ -1,27 +1,16 @@
-//! What a client's event does at a desk: whether it makes a checkpoint, and what it enters.
-ghost use Rattle.std.specs.Prelude.{◌≡◌, ◌++◌, ◌∷◌, [], IfOk, IfSome, OnOk, OnErr, Some, false, true};
+//! What a call does at a desk: whether it makes a checkpoint, what it enters, and which run it brings back.
+ghost use Rattle.std.specs.Prelude.{◌≡◌, IfOk, IfSome, OnOk, OnErr, Some, false, is_none, true};
 ghost use Rattle.ls_workers.specs.Count.{AddsEvents};
 ghost use Rattle.ls_machine.specs.Client.{HasSmallText, Notes, IsAllowed, entry_of, filled, note_of, opens_too_large};
-ghost use Rattle.ls_machine.specs.Counts.{no_events};
 ghost use Rattle.ls_desk.specs.Anew.{base_after, journal_after};
 ghost use Rattle.ls_desk.specs.Stands.{counts_of, fresh, is_long};
-ghost use Rattle.ls_history.specs.declared.happened.Happened.TheVariants.{Heard};
-ghost use Rattle.ls_history.specs.History.{HasLedTo};
-ghost use Rattle.ls_machine.specs.declared.client.ClientEvent.{ClientEvent};
+ghost use Rattle.ls_history.specs.declared.history_entry.HistoryEntry.TheVariants.{Heard};
+ghost use Rattle.ls_history.specs.Laws.{IsDone};
 ghost use Rattle.ls_workers.specs.Jobs.{HasLimits};
 
+use ls_answers::Done;
 use ls_desk::{Desk, DeskFault, Event};
-use ls_history::{BookName, Front, HistoryBook};
 use ls_machine::{ClientAnswer, ClientEvent};
-use std::sync::Wait;
-
-/// Says of an empty journal that nothing has happened at its desk.
-pub fn count_none(desk: &Desk)
-    requires { desk.now.journal ≡ [] }
-    ensures { counts_of desk.now ≡ no_events }
-{
-    let _counts = desk.counts();
-}
 
 /// Whether the journal is as long as it may be.
 pub fn is_long(desk: &Desk) -> bool
@@ -30,20 +19,25 @@ pub fn is_long(desk: &Desk) -> bool
     desk.journal().len() >= desk.max_journal()
 }
 
+/// The ticket of a run, and whether memory was refused in it.
+pub fn run_of(done: &Done) -> (u64, bool)
+    ensures { result ≡ (done.now.ticket, is_none done.now.answer) }
+{
+    let failed = match done.answer() {
+        Ok(_) => false,
+        Err(_) => true,
+    };
+    (done.ticket(), failed)
+}
+
 #[tactic(auto, using(crate::proofs::Entering::notes_entry, crate::proofs::Entering::base_is, crate::proofs::Entering::ended_is, crate::proofs::Entering::adds_one, crate::proofs::Entering::same_limits))]
 /// Enters a client's event, whose note it is: the desk shares the text of an opening with the note. A text that is too large has no note.
-/// The history has the event with its answer, or its refusal.
-pub fn enter<C: BookName>(
-    rt: &impl Wait,
-    book: &HistoryBook<C>,
-    front: &mut Front<C>,
+/// The history may have the event with its answer, or its refusal.
+pub fn enter(
     desk: &mut Desk,
     event: ClientEvent,
     note: Option<&Event>,
 ) -> Result<ClientAnswer, DeskFault>
-    ghost said: { ClientEvent }
-    requires same { event ≡ said }
-    requires led { HasLedTo desk.old front.old }
     requires allowed { IsAllowed event }
     requires some { IfSome note (λ noted. (noted.now ≡ note_of event) × (opens_too_large event ≡ false) × HasSmallText noted.now) }
     ensures ok { IfOk result (λ answer. Notes event answer (journal_after (fresh desk.old) desk.old.journal) desk.new.journal) }
@@ -54,15 +48,14 @@ pub fn enter<C: BookName>(
     ensures told { IfOk result (λ answer. entry_of event answer ≡ Some (filled (note_of event) answer)) }
     ensures fits { OnOk result (opens_too_large event ≡ false) }
     ensures err { OnErr result (desk.new ≡ desk.old) }
-    ensures added { front.new ≡ front.old ++ Heard said result ∷ [] }
-    ensures led { HasLedTo desk.new front.new }
+    ensures done { IsDone (Heard event result) desk.old desk.new }
 {
     let made = match note {
         Some(Event::Opened { text, .. }) => match text.again() {
             Ok(text) => Some(text),
-            Err(_) => return front.refuse(rt, book, desk, &event),
+            Err(_) => return Err(DeskFault::Memory),
         },
         _ => None,
     };
-    front.enter(rt, book, desk, event, made)
+    desk.enter(event, made)
 }

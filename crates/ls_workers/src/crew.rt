@@ -3,11 +3,10 @@ ghost use Rattle.std.specs.Prelude.{◌≡◌, ◌==◌, ◌<◌, ◌↔◌, IsT
 ghost use Rattle.std.specs.List.{list_all};
 ghost use Rattle.ls_workers.specs.Seats.{AreAll};
 
-use crate::ledgers::{Ledgers, OfFinished, OfReturned, OfTook};
+use crate::ledgers::{Ledgers, WorkerShares};
 use crate::seats::{Count, WorkerSeat};
 use ls_history::Front;
 use std::alloc::{AllocError as Memory, Global};
-use std::sync::ledger::Share;
 
 /// The seats of so many workers of the board with this mark, in the order of their numbers, each with a part of the shares. Nothing is
 /// counted in them. They have seen of the history what the front has.
@@ -19,21 +18,21 @@ pub fn seats_of<C: Ledgers>(
     alloc: Global,
     mark: u64,
     workers: u32,
-    took: Share<OfTook<C>>,
-    returned: Share<OfReturned<C>>,
-    finished: Share<OfFinished<C>>,
+    shares: WorkerShares<C>,
     front: &Front<C>,
 ) -> Result<Vec<WorkerSeat<C>>, Memory>
-    requires parts { (took.parts ≡ workers) × (returned.parts ≡ workers) × (finished.parts ≡ workers) }
-    requires none { (took.amount ≡ 0) × (returned.amount ≡ 0) × (finished.amount ≡ 0) }
+    requires parts { (shares.took.parts ≡ workers) × (shares.returned.parts ≡ workers) × (shares.finished.parts ≡ workers) }
+    requires none { (shares.took.amount ≡ 0) × (shares.returned.amount ≡ 0) × (shares.finished.amount ≡ 0) }
     ensures all { IfOk result (λ seats. AreAll (λ seat. seat.mark) (λ seat. seat.number) mark workers seats.items) }
     ensures took { IfOk result (λ seats. sum_by (λ seat. seat.took.share.amount) seats.items ≡ 0) }
     ensures returned { IfOk result (λ seats. sum_by (λ seat. seat.returned.share.amount) seats.items ≡ 0) }
     ensures finished { IfOk result (λ seats. sum_by (λ seat. seat.finished.share.amount) seats.items ≡ 0) }
 {
-    let mut took = took;
-    let mut returned = returned;
-    let mut finished = finished;
+    let WorkerShares {
+        mut took,
+        mut returned,
+        mut finished,
+    } = shares;
     let mut seats = Vec::new(alloc);
     for number in 0..workers {
         let seat = WorkerSeat {
@@ -92,14 +91,12 @@ pub fn are_all<C: Ledgers>(seats: &[WorkerSeat<C>], mark: u64, workers: u32) -> 
 }
 
 /// The shares of the workers, together.
-pub fn gathered<C: Ledgers>(
-    seats: Vec<WorkerSeat<C>>,
-) -> (Share<OfTook<C>>, Share<OfReturned<C>>, Share<OfFinished<C>>)
+pub fn gathered<C: Ledgers>(seats: Vec<WorkerSeat<C>>) -> WorkerShares<C>
     requires { 0 < vec_len seats }
-    ensures parts { (result.0.parts ≡ vec_len seats) × (result.1.parts ≡ vec_len seats) × (result.2.parts ≡ vec_len seats) }
-    ensures took { result.0.amount ≡ sum_by (λ seat. seat.took.share.amount) seats.items }
-    ensures returned { result.1.amount ≡ sum_by (λ seat. seat.returned.share.amount) seats.items }
-    ensures finished { result.2.amount ≡ sum_by (λ seat. seat.finished.share.amount) seats.items }
+    ensures parts { (result.took.parts ≡ vec_len seats) × (result.returned.parts ≡ vec_len seats) × (result.finished.parts ≡ vec_len seats) }
+    ensures took { result.took.amount ≡ sum_by (λ seat. seat.took.share.amount) seats.items }
+    ensures returned { result.returned.amount ≡ sum_by (λ seat. seat.returned.share.amount) seats.items }
+    ensures finished { result.finished.amount ≡ sum_by (λ seat. seat.finished.share.amount) seats.items }
 {
     let mut seats = seats;
     let Some(
@@ -127,5 +124,9 @@ pub fn gathered<C: Ledgers>(
         returned.merge(more_returned.share);
         finished.merge(more_finished.share);
     }
-    (took, returned, finished)
+    WorkerShares {
+        took,
+        returned,
+        finished,
+    }
 }

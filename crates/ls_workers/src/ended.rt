@@ -4,8 +4,8 @@ ghost use Rattle.std.specs.Prelude.{◌≡◌, ◌↔◌, [], IsTrue, true};
 ghost use Rattle.ls_workers.specs.Seats.{AreSame};
 
 use crate::agree::{client_event, same_events};
-use crate::same::same_event;
 use ls_desk::{Event, give_room_back};
+use ls_machine::same_event;
 
 /// How many events of a journal are compared at once, and go.
 const AT_ONCE: usize = 16;

@@ -2,7 +2,7 @@
 ghost use Rattle.std.specs.Prelude.{◌≡◌, ℕ, true, false, Bool, List, None, Option, slice_index_or};
 ghost use Rattle.ls_desk.specs.Stands.{Seen};
 ghost use Rattle.ls_workers.specs.Ends.{IsFirstWaiting, has_job, has_job_for};
-ghost use Rattle.ls_history.specs.declared.happened.Stop.{Stop};
+ghost use Rattle.ls_history.specs.declared.history_entry.Stop.{Stop};
 
 /// Where a job is queued, or the board has ended, and some worker waits, the one with the least number is let go. Until the board has ended
 /// no other is.

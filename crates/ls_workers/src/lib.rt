@@ -30,8 +30,9 @@
 #![tactic(auto)]
 
 mod agree;
-mod behind;
+mod audit_log;
 mod board;
+mod board_state;
 mod calls;
 mod crew;
 mod ended;
@@ -39,12 +40,12 @@ mod lately;
 mod laws;
 mod ledgers;
 mod notes;
-mod same;
 mod seats;
 mod worker;
 
-pub use behind::SeatFault;
+pub use audit_log::AuditLog;
 pub use board::Board;
+pub use board_state::SeatFault;
 pub use ended::Ended;
 pub use laws::first_waiting_is_let_go;
 pub use ledgers::{
@@ -52,5 +53,5 @@ pub use ledgers::{
 };
 pub use ls_history::{Front, Stop};
 pub use ls_machine::{ClientAnswer, ClientEvent};
-pub use seats::{ClientSeat, Count, ToldClient, WorkerSeat, WriterSeat};
+pub use seats::{ClientSeat, Count, WorkerSeat, WriterSeat};
 pub use worker::{Gate, work};

@@ -1,19 +1,13 @@
 //! Seats: what the client's reader, the workers and the writer hold.
-ghost use Rattle.std.specs.Prelude.{◌≡◌, ◌↔◌, ◌+◌, ◌-◌, ◌++◌, ◌∷◌, ◌<◌, ◌^◌, [], All, IfOk, IfNone, IfSome, OnOk, Some, length, slice_get, vec_len, vec_capacity, true, false, if◌then◌else◌};
-ghost use Rattle.ls_machine.specs.Client.{HasSmallText, client_events, filled, note_of, opens_too_large};
+ghost use Rattle.std.specs.Prelude.{◌≡◌, ◌+◌, ◌++◌, ◌∷◌, ◌<◌, ◌^◌, [], length, vec_len, vec_capacity};
 ghost use mathlib.Core.List.{IsPrefix};
 ghost use Rattle.ls_history.specs.Told.{heard_of, outs_of};
-ghost use Rattle.ls_workers.specs.Seats.{AreSame, HasAgreed, HasRoom, KnowsTheSame, since, told_by, told_nothing};
+ghost use Rattle.ls_workers.specs.Seats.{logged_by, logged_nothing, since};
 
-use crate::agree::ends_with;
-use crate::ended::Ended;
+use crate::audit_log::AuditLog;
 use crate::ledgers::{Ledgers, OfClient, OfFinished, OfHeard, OfReturned, OfSent, OfTook};
-use crate::notes::{filled, note_of};
-use ls_desk::{Desk, Event};
-use ls_history::Front;
-use ls_machine::{ClientAnswer, ClientEvent};
-use std::alloc::{AllocError, Global};
-use std::mem;
+use ls_history::{Front, History};
+use std::alloc::Global;
 use std::sync::Wait;
 use std::sync::ledger::{Book, Ledger, Share};
 
@@ -69,112 +63,6 @@ impl<L: Ledger> Count<L> {
     }
 }
 
-/// What a client's seat knows of its events.
-#[derive(Drop)]
-pub struct ToldClient {
-    /// The events that it has entered since the last checkpoint, each with the answer that it got, as they stand in the journal.
-    pub list: Vec<Event>,
-    /// Another list, which is empty, with which it begins anew.
-    pub spare: Vec<Event>,
-    /// What it had before earlier checkpoints, beside the journals that these ended, as far as it isn't compared yet.
-    pub ended: Vec<Ended>,
-    /// How many checkpoints its events have made.
-    pub checkpoints: u64,
-    /// Whether a difference was found: the journal had another entry where one of them was entered, or a list that ended isn't its
-    /// journal's.
-    pub strayed: bool,
-}
-
-impl ToldClient {
-    /// Nothing yet. Takes no memory.
-    pub fn nothing(alloc: Global) -> ToldClient
-        ensures { told_by result ≡ told_nothing }
-    {
-        ToldClient {
-            list: Vec::new(alloc),
-            spare: Vec::new(alloc),
-            ended: Vec::new(alloc),
-            checkpoints: 0,
-            strayed: false,
-        }
-    }
-
-    /// Compares a few events of a journal that ended with the list that ended with it. They go, and a difference is kept. Takes no memory.
-    fn compare_some(&mut self)
-        ensures { KnowsTheSame (told_by self.old) (told_by self.new) }
-    {
-        let Some(mut ended) = self.ended.pop() else {
-            return;
-        };
-        let agree = ended.compare_some();
-        self.strayed = self.strayed || !agree;
-        if !ended.is_done() {
-            self.ended.push_reserved(ended);
-        }
-    }
-
-    /// The note of an event, its answer aside, for which there is room then. `None` where the event's text is too large for any desk.
-    /// A few events of what had ended are compared.
-    ///
-    /// # Errors
-    ///
-    /// Where an allocation is refused.
-    pub(crate) fn prepare_note(&mut self, event: &ClientEvent) -> Result<Option<Event>, AllocError>
-        ensures some { IfOk result (λ noted. IfSome noted (λ note. note ≡ note_of event.now)) }
-        ensures none { IfOk result (λ noted. IfNone noted (opens_too_large event.now ≡ true)) }
-        ensures fits { IfOk result (λ noted. IfSome noted (λ note. (opens_too_large event.now ≡ false) × HasSmallText note)) }
-        ensures room { OnOk result (HasRoom self.new) }
-        ensures kept { KnowsTheSame (told_by self.old) (told_by self.new) }
-    {
-        self.compare_some();
-        self.list.reserve(1)?;
-        self.spare.reserve(1)?;
-        self.ended.reserve(1)?;
-        note_of(*self.list.allocator(), event)
-    }
-
-    /// Where an event made a checkpoint at a desk, the list begins anew, and what it had comes beside the journal that ended, to be
-    /// compared. Takes no memory, and lets none go.
-    fn begin_anew(&mut self, anew: bool, desk: &mut Desk)
-        requires { HasRoom self.old }
-        ensures list { self.new.list.items ≡ (if anew then [] else self.old.list.items) }
-        ensures checkpoints { self.new.checkpoints ≡ (if anew then desk.old.base.checkpoints else self.old.checkpoints) }
-        ensures strayed { self.new.strayed ≡ self.old.strayed }
-        ensures ended { All AreSame self.new.ended.items ↔ (All AreSame self.old.ended.items × (anew ≡ true → client_events desk.old.ended ≡ self.old.list.items)) }
-        ensures room { vec_len self.new.list < vec_capacity self.new.list }
-        ensures desk { record desk.old { ended = desk.new.ended } ≡ desk.new }
-    {
-        if !anew {
-            return;
-        }
-        let alloc = *self.list.allocator();
-        let mut spare = mem::replace(&mut self.spare, Vec::new(alloc));
-        spare.clear();
-        let list = mem::replace(&mut self.list, spare);
-        let journal = desk.take_ended();
-        self.ended.push_reserved(Ended { list, journal });
-        self.checkpoints = desk.checkpoints();
-    }
-
-    /// An event was entered at a desk with its answer, and comes with its note. It is a difference where the desk's journal has another
-    /// entry. Where the event made a checkpoint the list begins anew with it, and what it had is compared later with the journal that
-    /// ended, which the desk lets go. Takes no memory, and lets none go.
-    pub(crate) fn hear(&mut self, anew: bool, desk: &mut Desk, note: Event, answer: ClientAnswer)
-        requires { HasRoom self.old }
-        ensures list { self.new.list.items ≡ (if anew then [] else self.old.list.items) ++ filled note answer ∷ [] }
-        ensures checkpoints { self.new.checkpoints ≡ (if anew then desk.old.base.checkpoints else self.old.checkpoints) }
-        ensures agreed { HasAgreed (told_by self.new) ↔ (HasAgreed (told_by self.old) × (slice_get desk.old.journal (length desk.old.journal - 1) ≡ Some (filled note answer))
-            × (anew ≡ true → client_events desk.old.ended ≡ self.old.list.items)) }
-        ensures desk { record desk.old { ended = desk.new.ended } ≡ desk.new }
-    {
-        let entry = filled(note, answer);
-        let is_last = ends_with(desk.journal(), &entry);
-        self.begin_anew(anew, desk);
-        self.strayed = self.strayed || !is_last;
-        self.list.push_reserved(entry);
-    }
-}
-
 /// The seat of a board's client: whoever has it enters the client's events.
 #[derive(Drop)]
 pub struct ClientSeat<C: Ledgers> {
@@ -183,7 +71,7 @@ pub struct ClientSeat<C: Ledgers> {
     /// How many events it has entered.
     pub asked: Count<OfClient<C>>,
     /// What it knows of these events.
-    pub told: ToldClient,
+    pub audit_log: AuditLog,
     /// What it has seen of the history, which has each of its client's events, with the answer or the refusal.
     pub front: Front<C>,
     /// The share that says that it is all.
@@ -204,13 +92,13 @@ impl<C: Ledgers> ClientSeat<C> {
     ) -> ClientSeat<C>
         requires none { (share.parts ≡ 1) × (share.amount ≡ 0) }
         requires unheard { (heard.parts ≡ 1) × (heard.amount ≡ 0) × (front ≡ []) }
-        ensures told { (result.mark ≡ mark) × (result.asked.share.amount ≡ 0) × (told_by result.told ≡ told_nothing) }
+        ensures none { (result.mark ≡ mark) × (result.asked.share.amount ≡ 0) × (logged_by result.audit_log ≡ logged_nothing) }
         ensures front { result.front ≡ [] }
     {
         ClientSeat {
             mark,
             asked: Count::new(share),
-            told: ToldClient::nothing(alloc),
+            audit_log: AuditLog::nothing(alloc),
             front,
             heard,
         }
@@ -252,10 +140,15 @@ impl<C: Ledgers> WriterSeat<C> {
     }
 
     /// Sees all of the history, which has as many replies as the book: just those that it was given.
-    pub(crate) fn follow(&mut self, rt: &impl Wait, book: &mut Book<OfSent<C>>, all: &Front<C>)
-        requires { book.old.total ≡ length (outs_of all.now) }
-        ensures seen { self.new.front ≡ all.now }
-        ensures grows { IsPrefix self.old.front all.now }
+    pub(crate) fn follow(
+        &mut self,
+        rt: &impl Wait,
+        book: &mut Book<OfSent<C>>,
+        history: &History<C>,
+    )
+        requires { book.old.total ≡ length (outs_of history.now) }
+        ensures seen { self.new.front ≡ history.now }
+        ensures grows { IsPrefix self.old.front history.now }
         ensures outs { outs_of self.new.front ≡ outs_of self.old.front }
         ensures total { book.new.total ≡ book.old.total }
         ensures counted { (self.new.sent.share.amount ≡ self.old.sent.share.amount) × (self.new.sent.share.amount ≡ book.new.total) }
@@ -263,7 +156,7 @@ impl<C: Ledgers> WriterSeat<C> {
     {
         let WriterSeat { sent, front, .. } = self;
         sent.audit(book);
-        front.follow(rt, all);
+        front.follow(rt, history);
     }
 
     /// A reply leaves. The tickets begin anew with its own where there was a checkpoint since the last one.

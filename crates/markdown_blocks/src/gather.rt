@@ -25,6 +25,14 @@ use ls_text::Snapshot;
 use origins::{Aside, Gathered};
 use std::alloc::{AllocError, Global};
 
+// A line of a draft, with its line end.
+#[derive(Clone, Copy)]
+struct PlacedLine<'t> {
+    text: &'t str,
+    // The offset of its first character.
+    at: usize,
+}
+
 // The characters of a text.
 fn characters_of(alloc: Global, text: &str) -> Result<Vec<char>, AllocError>
     ensures { IfOk result (λ characters. characters.items ≡ chars text.now) }
@@ -34,12 +42,12 @@ fn characters_of(alloc: Global, text: &str) -> Result<Vec<char>, AllocError>
 }
 
 // Adds a line of a block's content, many characters in one piece.
-fn put_line(block: &mut Gathered, fence: Fence, line: &str, at: usize) -> Result<(), AllocError>
-    requires { at + length (chars line.now) < 2 ^ 64 }
-    ensures { OnOk result (block.new ≡ block.old ++ fence_content fence (at, chars line.now)) }
+fn put_line(block: &mut Gathered, fence: Fence, line: PlacedLine<'_>) -> Result<(), AllocError>
+    requires { line.at + length (chars line.text.now) < 2 ^ 64 }
+    ensures { OnOk result (block.new ≡ block.old ++ fence_content fence (line.entry.at, chars line.entry.text.now)) }
 {
-    let (gone, content) = content(fence, line);
-    block.copy(content, at + gone)
+    let (gone, content) = content(fence, line.text);
+    block.copy(content, line.at + gone)
 }
 
 // Whether the first line of a text is an attribute list that says ABNF, and whether it is one at all.
@@ -69,22 +77,26 @@ fn read_in_block(
     block: &mut Gathered,
     fence: Fence,
     beside: Beside,
-    line: &str,
-    at: usize,
+    line: PlacedLine<'_>,
     behind: &str,
 ) -> Result<(Reading, Beside), AllocError>
-    requires { at + length (chars line.now) < 2 ^ 64 }
+    requires { line.at + length (chars line.text.now) < 2 ^ 64 }
     ensures { IfOk result (λ next. (end : ℕ) (ls : List Line) → first_says ls ≡ says_abnf (first_line (chars behind.now)) → first_lists ls ≡ begins_list (first_line (chars behind.now))
-        → with_blocks found.new (all_blocks end next.0 next.1 block.new ls) ≡ with_blocks found.old (all_blocks end (Reading.Block fence) beside block.old ((at, chars line.now) ∷ ls))) }
+        → with_blocks found.new (all_blocks end next.0 next.1 block.new ls) ≡ with_blocks found.old (all_blocks end (Reading.Block fence) beside block.old ((line.entry.at, chars line.entry.text.now) ∷ ls))) }
 {
-    let closed = closes(found.alloc(), fence, line)?;
+    let closed = closes(found.alloc(), fence, line.text)?;
     if closed {
         let (says, stands) = first_list(found.alloc(), behind)?;
-        found.end_block(fence.with_word(says), beside.with_list(stands), block, at)?;
+        found.end_block(
+            fence.with_word(says),
+            beside.with_list(stands),
+            block,
+            line.at,
+        )?;
         block.clear();
         return Ok((Reading::BehindBlock, NO_LIST));
     }
-    put_line(block, fence, line, at)?;
+    put_line(block, fence, line)?;
     Ok((Reading::Block(fence), beside))
 }
 
@@ -93,20 +105,19 @@ fn behind_line(
     alloc: Global,
     reading: Reading,
     beside: Beside,
-    line: &str,
-    at: usize,
+    line: PlacedLine<'_>,
 ) -> Result<(Reading, Beside), AllocError>
-    requires { at + length (chars line.now) < 2 ^ 64 }
-    ensures reading { IfOk result (λ next. next.0 ≡ behind_line reading (without_end (chars line.now))) }
-    ensures beside { IfOk result (λ next. next.1 ≡ beside_behind (behind_line reading (without_end (chars line.now))) beside at (without_end (chars line.now))) }
+    requires { line.at + length (chars line.text.now) < 2 ^ 64 }
+    ensures reading { IfOk result (λ next. next.0 ≡ behind_line reading (without_end (chars line.entry.text.now))) }
+    ensures beside { IfOk result (λ next. next.1 ≡ beside_behind (behind_line reading (without_end (chars line.entry.text.now))) beside line.entry.at (without_end (chars line.entry.text.now))) }
 {
-    if !reading.goes_on() && !may_matter(line) {
+    if !reading.goes_on() && !may_matter(line.text) {
         return Ok((Reading::Text, NO_LIST));
     }
-    let characters = characters_of(alloc, line)?;
-    let line = without_end(characters.as_slice());
-    let next = reading.behind_line(line);
-    Ok((next, beside.behind(next, at, line)))
+    let characters = characters_of(alloc, line.text)?;
+    let content = without_end(characters.as_slice());
+    let next = reading.behind_line(content);
+    Ok((next, beside.behind(next, line.at, content)))
 }
 
 // Reads a line before the rest of the text, and returns what is read then and known beside.
@@ -115,19 +126,18 @@ fn read_line(
     block: &mut Gathered,
     reading: Reading,
     beside: Beside,
-    line: &str,
-    at: usize,
+    line: PlacedLine<'_>,
     behind: &str,
 ) -> Result<(Reading, Beside), AllocError>
-    requires { at + length (chars line.now) < 2 ^ 64 }
+    requires { line.at + length (chars line.text.now) < 2 ^ 64 }
     ensures { IfOk result (λ next. (end : ℕ) (ls : List Line) → first_says ls ≡ says_abnf (first_line (chars behind.now)) → first_lists ls ≡ begins_list (first_line (chars behind.now))
-        → with_blocks found.new (all_blocks end next.0 next.1 block.new ls) ≡ with_blocks found.old (all_blocks end reading beside block.old ((at, chars line.now) ∷ ls))) }
+        → with_blocks found.new (all_blocks end next.0 next.1 block.new ls) ≡ with_blocks found.old (all_blocks end reading beside block.old ((line.entry.at, chars line.entry.text.now) ∷ ls))) }
 {
     match reading {
-        Reading::Block(fence) => read_in_block(found, block, fence, beside, line, at, behind),
+        Reading::Block(fence) => read_in_block(found, block, fence, beside, line, behind),
         _ => {
             block.clear();
-            Ok(behind_line(found.alloc(), reading, beside, line, at)?)
+            Ok(behind_line(found.alloc(), reading, beside, line)?)
         }
     }
 }
@@ -156,9 +166,10 @@ fn gather(alloc: Global, wants_asides: bool, text: &str, even: bool) -> Result<F
                 continue 'lines;
             }
         }
-        let (line, behind) = first_line(rest);
-        (reading, beside) = read_line(&mut found, &mut block, reading, beside, line, at, behind)?;
-        at += char_count(line, even);
+        let (text, behind) = first_line(rest);
+        let line = PlacedLine { text, at };
+        (reading, beside) = read_line(&mut found, &mut block, reading, beside, line, behind)?;
+        at += char_count(text, even);
         rest = behind;
     }
     if let Reading::Block(fence) = reading {

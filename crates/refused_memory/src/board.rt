@@ -2,7 +2,6 @@
 ghost use Rattle.std.specs.Prelude.{◌≡◌, ◌<◌, IfOk};
 ghost use Rattle.ls_machine.specs.Client.{IsAllowed};
 
-use crate::call::{START, uri, whole};
 use ls_answers::Ask;
 use ls_desk::{Desk, DeskFault};
 use ls_lists::Text;
@@ -11,6 +10,7 @@ use ls_text::Encoding;
 use ls_workers::{
     Blanks, Board, ClientAnswer, ClientEvent, ClientSeat, Crew, WorkerSeat, WriterSeat,
 };
+use one_document::{START, uri, whole};
 use std::alloc::{AllocError, Global};
 use std::io;
 use std::marker::Brand;
@@ -62,12 +62,12 @@ fn entered<C: Crew, R: Wait>(
     board.client(rt, client, event(alloc, does)?)
 }
 
-// What a client's seat was told: how many events it has entered in all and since the last checkpoint, how many checkpoints these made, and whether
-// it has strayed.
-fn told<C: Crew>(client: &ClientSeat<C>) -> (u64, usize, u64, bool) {
-    let told = &client.told;
+// What a client's seat has counted and listed: how many events it has entered in all and since the last checkpoint, how many checkpoints these
+// made, and whether it has strayed.
+fn logged<C: Crew>(client: &ClientSeat<C>) -> (u64, usize, u64, bool) {
+    let log = &client.audit_log;
     let entered = client.asked.get();
-    (entered, told.list.len(), told.checkpoints, told.strayed)
+    (entered, log.list.len(), log.checkpoints, log.strayed)
 }
 
 // Which of the first eight tickets wait, by a bit for each.
@@ -90,12 +90,12 @@ fn answered<C: Crew, R: Wait>(
     client: &mut ClientSeat<C>,
     does: Does,
 ) -> Option<ClientAnswer> {
-    let before = (told(client), waiting(rt, board, client));
+    let before = (logged(client), waiting(rt, board, client));
     match entered(rt, alloc, board, client, does) {
         Err(DeskFault::Memory) => {}
         answer => return answer.ok(),
     }
-    if (told(client), waiting(rt, board, client)) != before {
+    if (logged(client), waiting(rt, board, client)) != before {
         return None;
     }
     entered(rt, alloc, board, client, does).ok()

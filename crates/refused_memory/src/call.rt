@@ -1,12 +1,11 @@
 //! The calls of a desk, with plain arguments. All are about one document.
 
 use crate::worker::Worker;
-use ls_answers::Ask;
 use ls_desk::{Desk, DeskFault, Kept, Out};
-use ls_lists::{List, Text};
+use ls_lists::List;
 use ls_rpc::Id;
-use ls_text::{Edit, Encoding, Position};
-use std::alloc::{AllocError, Global};
+use one_document::{change, close, hover, open, rename, symbols};
+use std::alloc::Global;
 
 /// A call, with the text of the document or the id of the request.
 #[derive(Clone, Copy)]
@@ -39,52 +38,6 @@ pub enum Answer {
     Findings(u64),
     Nothing,
     Refused(DeskFault),
-}
-
-/// The start of the document, where the name of its first rule stands.
-pub const START: Position = Position {
-    line: 0,
-    character: 0,
-};
-
-/// The document's name.
-pub fn uri(alloc: Global) -> Result<Text, AllocError> {
-    Text::from_str(alloc, "file:///g")
-}
-
-fn open(desk: &mut Desk, alloc: Global, text: &str) -> Result<u64, DeskFault> {
-    desk.did_open(
-        uri(alloc)?,
-        1,
-        Text::from_str(alloc, text)?,
-        Encoding::Utf16,
-    )
-}
-
-/// One edit that replaces the whole text.
-pub fn whole(alloc: Global, text: &str) -> Result<List<Edit>, AllocError> {
-    let text = Text::from_str(alloc, text)?;
-    let mut edits = List::new(alloc);
-    edits.push(Edit { range: None, text })?;
-    Ok(edits)
-}
-
-fn change(desk: &mut Desk, alloc: Global, text: &str) -> Result<Option<u64>, DeskFault> {
-    desk.did_change(uri(alloc)?, 2, whole(alloc, text)?)
-}
-
-fn hover(desk: &mut Desk, alloc: Global, id: i64) -> Result<u64, DeskFault> {
-    desk.request(Id::Number(id), uri(alloc)?, Ask::Hover(START), false)
-}
-
-fn rename(desk: &mut Desk, alloc: Global, id: i64) -> Result<u64, DeskFault> {
-    let uri = uri(alloc)?;
-    let ask = Ask::Rename(START, Text::from_str(alloc, "b")?);
-    desk.request(Id::Number(id), uri, ask, false)
-}
-
-fn symbols(desk: &mut Desk, alloc: Global, id: i64) -> Result<u64, DeskFault> {
-    desk.request(Id::Number(id), uri(alloc)?, Ask::Symbols, false)
 }
 
 // What the oldest reply is.
@@ -128,7 +81,7 @@ impl Call {
                 None => Answer::Nothing,
             },
             Call::Close => {
-                desk.did_close(uri(alloc)?)?;
+                close(desk, alloc)?;
                 Answer::Done
             }
             Call::Hover(id) => Answer::Number(hover(desk, alloc, *id)?),

@@ -7,5 +7,7 @@
 #![tactic(auto)]
 
 mod file;
+mod name;
 
 pub use file::{FileFault, read_bytes, read_text};
+pub use name::{has_ending, is_markdown};

@@ -1,9 +1,8 @@
 //! What is found in a text, as a text.
 
 use abnf_least::least;
-use abnf_lint::{Finding, Severity, findings};
+use abnf_lint::{Finding, Severity, findings, findings_in};
 use abnf_names::Grammar;
-use abnf_productive::findings_in;
 use ls_lists::List;
 use ls_text::{Place, Snapshot};
 use std::alloc::{AllocError, Global};

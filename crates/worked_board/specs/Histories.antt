@@ -6,8 +6,8 @@ use Rattle.ls_machine.specs.declared.event.DeskFault.{DeskFault}
 use Rattle.ls_machine.specs.declared.event.DeskFault.TheVariants.{AlreadyOpen, NotOpen}
 use Rattle.ls_machine.specs.declared.event.Event.TheVariants as event
 use Rattle.ls_machine.specs.declared.event.Out.TheVariants as out
-use Rattle.ls_history.specs.declared.happened.Happened.{Happened}
-use Rattle.ls_history.specs.declared.happened.Happened.TheVariants.{Began, Heard, Left}
+use Rattle.ls_history.specs.declared.history_entry.HistoryEntry.{HistoryEntry}
+use Rattle.ls_history.specs.declared.history_entry.HistoryEntry.TheVariants.{Began, Heard, Left}
 use Rattle.ls_history.specs.History.{IsLegal}
 use Rattle.ls_history.specs.Told.{events_of, heard_of, outs_of}
 
@@ -16,11 +16,11 @@ abbrev pub body : List ℕ
 body = 104 ∷ 105 ∷ []
 
 -- a desk with room for three begins, a body is said and leaves, and then a document can't be closed, for this cause
-abbrev pub refused_for : DeskFault → List Happened
+abbrev pub refused_for : DeskFault → List HistoryEntry
 refused_for fault = Began 3 ∷ Heard (Say body) (Ok answer.Said) ∷ Left (out.Said body) ∷ Heard (DidClose []) (Err fault) ∷ []
 
 -- the same, for the cause that holds: no document of this uri is open
-abbrev pub short : List Happened
+abbrev pub short : List HistoryEntry
 short = refused_for NotOpen
 
 -- What that history says of each kind, and that it is legal for the cause that holds, and for no other.

@@ -5,15 +5,18 @@ ghost use Rattle.ls_workers.specs.Jobs.{HasLimits};
 
 use abnf_least::Shortest;
 use ls_answers::{Answer, Ask, Done, run};
-use ls_desk::{Counts, Desk, DeskFault, Event, Kept, Out, ticket_of};
+use ls_desk::{Boxed, Counts, Desk, DeskFault, Event, Kept, Out, SharedSnapshot, ticket_of};
 use ls_lists::Text;
+use ls_machine::same_event;
 use ls_rpc::Id;
-use ls_text::{Encoding, Position};
+use ls_text::{Encoding, Position, Snapshot};
 use ls_workers::{Board, ClientAnswer, ClientEvent, ClientSeat, Crew, WorkerSeat, WriterSeat};
 use std::alloc::{AllocError, Global};
 use std::sync::Wait;
 
 const URI: &str = "file:///g";
+
+const TEXT: &str = "a = \"x\"";
 
 // The start of the document, where the name of its first rule stands.
 const START: Position = Position {
@@ -29,7 +32,7 @@ fn uri(alloc: Global) -> Result<Text, AllocError> {
 pub(crate) fn opening(alloc: Global) -> Result<ClientEvent, AllocError>
     ensures { IfOk result (λ event. IsAllowed event) }
 {
-    let text = Text::from_str(alloc, "a = \"x\"")?;
+    let text = Text::from_str(alloc, TEXT)?;
     let event = ClientEvent::DidOpen(uri(alloc)?, 1, text, Encoding::Utf16);
     let copy = event.copy();
     drop(event);
@@ -186,53 +189,41 @@ pub(crate) fn answers_hover(out: &Out, ticket: u64, number: i64) -> bool {
     }
 }
 
-// Whether this opens the document, by all that it says.
-fn is_opening(event: &Event) -> bool {
-    match event {
-        Event::Opened {
-            uri,
-            label,
-            text,
-            encoding,
-            version,
-        } => {
-            let has_text = match text.get().line(0) {
-                Some(line) => line == "a = \"x\"" && text.get().line_count() == 1,
-                None => false,
-            };
-            let is_utf16 = matches!(encoding, Encoding::Utf16);
-            uri.as_str() == URI && *label == 1 && has_text && is_utf16 && *version == 1
-        }
-        _ => false,
-    }
+// The entry by which the document was opened.
+fn opened(alloc: Global) -> Result<Event, AllocError> {
+    let Ok(snapshot) = Snapshot::of_text(alloc, Text::from_str(alloc, TEXT)?.into_string()) else {
+        return Err(AllocError);
+    };
+    let text = SharedSnapshot::new(alloc, snapshot)?;
+    Ok(Event::Opened {
+        uri: uri(alloc)?,
+        label: 1,
+        text,
+        encoding: Encoding::Utf16,
+        version: 1,
+    })
 }
 
-// Whether this asks for a hover on its rule with this id and this ticket, by all that it says.
-fn is_hover(event: &Event, wanted: i64, told: u64) -> bool {
-    match event {
-        Event::Asked {
-            id,
-            uri,
-            ask,
-            links,
-            ticket,
-        } => {
-            let is_wanted = matches!(id.get(), Id::Number(id) if *id == wanted);
-            let is_start = matches!(ask.get(), Ask::Hover(at) if at.line == 0 && at.character == 0);
-            is_wanted && uri.as_str() == URI && is_start && !*links && *ticket == told
-        }
-        _ => false,
-    }
+// The entry of a hover on its rule, with this id and this ticket.
+fn asked(alloc: Global, id: i64, ticket: u64) -> Result<Event, AllocError> {
+    Ok(Event::Asked {
+        id: Boxed::new(alloc, Id::Number(id))?,
+        uri: uri(alloc)?,
+        ask: Boxed::new(alloc, Ask::Hover(START))?,
+        links: false,
+        ticket,
+    })
 }
 
-// Whether this is the client's event with this number, from 0, of the session with two hovers.
-fn is_of_client(event: &Event, number: usize) -> bool {
-    match number {
-        0 => is_opening(event),
-        1 => is_hover(event, 1, 2),
-        2 => is_hover(event, 2, 3),
-        _ => false,
-    }
+// Whether this is the client's entry with this number, from 0, of the session with two hovers.
+fn is_of_client(alloc: Global, event: &Event, number: usize) -> Result<bool, AllocError> {
+    let wanted = match number {
+        0 => opened(alloc)?,
+        1 => asked(alloc, 1, 2)?,
+        2 => asked(alloc, 2, 3)?,
+        _ => return Ok(false),
+    };
+    Ok(same_event(event, &wanted))
 }
 
 /// Whether the client's events in a journal are that one document is opened and two hovers are asked, in this order, and what was sent has
@@ -250,7 +241,7 @@ pub(crate) fn has_told(
             Event::Sent { ticket } => sent.push(*ticket)?,
             Event::Took { .. } | Event::Returned { .. } | Event::Finished { .. } => {}
             _ => {
-                are_alike = are_alike && is_of_client(event, count);
+                are_alike = are_alike && is_of_client(alloc, event, count)?;
                 count = count.saturating_add(1);
             }
         }

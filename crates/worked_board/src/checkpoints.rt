@@ -44,7 +44,7 @@ fn cancels<C: Crew, R: Wait>(
         if board.client(rt, client, event)? != ClientAnswer::Cancelled(false) {
             return Ok(false);
         }
-        if client.told.ended.len() > 1 {
+        if client.audit_log.ended.len() > 1 {
             return Ok(false);
         }
     }
@@ -81,7 +81,7 @@ fn alters(list: &mut Vec<Event>, at: usize) -> bool {
 // Alters what is to be altered before the checkpoint.
 fn alters_before<C: Crew>(client: &mut ClientSeat<C>, place: Place) -> bool {
     match place {
-        Place::Before(at) => alters(&mut client.told.list, at),
+        Place::Before(at) => alters(&mut client.audit_log.list, at),
         Place::Nowhere | Place::Ended(_) | Place::Behind => true,
     }
 }
@@ -89,11 +89,11 @@ fn alters_before<C: Crew>(client: &mut ClientSeat<C>, place: Place) -> bool {
 // Alters what is to be altered behind it.
 fn alters_behind<C: Crew>(client: &mut ClientSeat<C>, place: Place) -> bool {
     match place {
-        Place::Ended(at) => match client.told.ended.last_mut() {
+        Place::Ended(at) => match client.audit_log.ended.last_mut() {
             Some(ended) => alters(&mut ended.list, at),
             None => false,
         },
-        Place::Behind => alters(&mut client.told.list, 0),
+        Place::Behind => alters(&mut client.audit_log.list, 0),
         Place::Nowhere | Place::Before(_) => true,
     }
 }
@@ -150,7 +150,8 @@ fn one_row<C: Crew, R: Wait>(
     };
     let filled = cancels(rt, &board, &mut client, others) == Ok(true);
     let before = alters_before(&mut client, place);
-    let ended = cancels(rt, &board, &mut client, 1) == Ok(true) && client.told.checkpoints == 1;
+    let ended = cancels(rt, &board, &mut client, 1) == Ok(true)
+        && client.audit_log.checkpoints == 1;
     let behind = alters_behind(&mut client, place);
     let went_on = cancels(rt, &board, &mut client, more) == Ok(true);
     let closed = closes(board, client, writer, workers, place);

@@ -43,7 +43,7 @@ fn opens<C: Crew, R: Wait>(
     let first = board.client(rt, client, opening(alloc)?)?;
     let second = board.client(rt, client, opening(alloc)?);
     let refused = second == Err(DeskFault::AlreadyOpen);
-    let counted = client.asked.get() == 1 && client.told.list.len() == 1;
+    let counted = client.asked.get() == 1 && client.audit_log.list.len() == 1;
     Ok(first == ClientAnswer::Version(1) && refused && counted)
 }
 
@@ -74,7 +74,7 @@ fn drains<C: Crew, R: Wait>(
 // The client forgets what it entered, where the session says so.
 fn forgets<C: Crew>(client: &mut ClientSeat<C>, session: Session) {
     if matches!(session, Session::Altered) {
-        drop(client.told.list.pop());
+        drop(client.audit_log.list.pop());
     }
 }
 
@@ -102,7 +102,7 @@ fn renews<C: Crew, R: Wait>(
 ) -> Result<bool, DeskFault> {
     for _ in 0..20 {
         let answer = board.client(rt, client, ClientEvent::Cancel(Id::Number(9)))?;
-        if answer != ClientAnswer::Cancelled(false) || client.told.ended.len() > 1 {
+        if answer != ClientAnswer::Cancelled(false) || client.audit_log.ended.len() > 1 {
             return Ok(false);
         }
     }
@@ -137,7 +137,7 @@ fn closes<C: Crew>(
     requires { (C.workers ≡ C.parts) × (0 < C.parts) }
 {
     match session {
-        Session::Forgotten => drop(client.told.list.pop()),
+        Session::Forgotten => drop(client.audit_log.list.pop()),
         Session::Unsent => drop(writer.tickets.pop()),
         Session::Drained
         | Session::Stopped

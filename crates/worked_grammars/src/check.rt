@@ -90,6 +90,7 @@ fn is_so(alloc: Global, text: &Snapshot, checks: &[Check]) -> Result<bool, Alloc
     has_all
 }
 
+/// The snapshot of a text.
 pub(crate) fn snapshot(alloc: Global, text: &str) -> Result<Snapshot, TextFault> {
     Snapshot::of_text(alloc, String::from_str(alloc, text)?)
 }

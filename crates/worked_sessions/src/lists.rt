@@ -1,3 +1,5 @@
+//! The texts and lists that all crates use.
+
 use ls_lists::{List, Text};
 use std::alloc::{AllocError, Global};
 

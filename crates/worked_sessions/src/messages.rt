@@ -1,3 +1,5 @@
+//! Which messages bodies are, and the texts of replies and notices.
+
 use ls_rpc::{
     Id, Message, PARSE_ERROR, error_text, notice_text, read_id, read_message, result_text,
 };

@@ -1,8 +1,7 @@
 -- What the pass over a text's blocks holds. Only contracts of private functions speak of it.
-use Rattle.std.specs.Prelude.{◌≡◌, ◌<◌, ℕ, Bool, true, false, not, ◌&&◌, ◌||◌, List, [], ◌∷◌, ◌++◌, Contains, length, nat_lt, slice_get, slice_index_or, Some, None, if◌then◌else◌}
+use Rattle.std.specs.Prelude.{◌≡◌, ◌<◌, ℕ, Bool, true, false, not, ◌&&◌, ◌||◌, List, [], ◌∷◌, ◌++◌, Contains, length, slice_get, slice_index_or, Some, None, if◌then◌else◌}
 use Rattle.std.specs.Option.{option_map_or}
 use Rattle.abnf_syntax.specs.declared.block.Head.{Head}
-use Rattle.abnf_syntax.specs.Faults.{place_of}
 use Rattle.abnf_syntax.specs.Heads.{head_of}
 use Rattle.abnf_parts.specs.declared.node.Node.{Node}
 use Rattle.abnf_parts.specs.declared.node.Node.TheVariants.{Ref, Rep, Span}
@@ -11,9 +10,10 @@ use Rattle.abnf_parts.specs.Part.{Part, span, rep, ref, subparts}
 use Rattle.abnf_names.specs.Said.{name_of}
 use Rattle.abnf_names.specs.Excerpts.{Excerpt}
 use Rattle.abnf_lint.specs.declared.block.Seen.{Seen}
-use Rattle.abnf_lint.specs.declared.finding.Code.TheVariants as c
 use Rattle.abnf_lint.specs.declared.finding.Finding.{Finding}
-use Rattle.abnf_lint.specs.own.Findings.{block_findings, found_if, has_name, said_findings}
+use Rattle.abnf_lint.specs.declared.told.HeadTold.{HeadTold}
+use Rattle.abnf_lint.specs.Empty.{is_above, is_turned}
+use Rattle.abnf_lint.specs.own.Findings.{block_findings, has_name, said_findings}
 
 -- the names of heads, and that of one more block's head
 abbrev pub with_head : List Name → Excerpt → List Name
@@ -41,12 +41,13 @@ AreSeen names heads bases seen = (name : Name) (r : ℕ) → rule_number names n
 abbrev pub seen_more : Seen → Head → Seen
 seen_more before head = record { is_head = true; is_base = before.is_base || not head.adds }
 
--- what is found of a head, by what the blocks before say of its name
-abbrev pub head_found : Seen → Bool → Head → List Finding
-head_found before marked head =
-    found_if (not head.adds && before.is_base) c.Duplicate (place_of head.name) head.name.text.now
-    ++ found_if (head.adds && not before.is_base) c.NoBase (place_of head.name) head.name.text.now
-    ++ found_if (not before.is_head && marked) c.Unproductive (place_of head.name) head.name.text.now
+-- what is known of a head, by what the blocks before say of its name
+abbrev pub told_of_head : Seen → Bool → Head → HeadTold
+told_of_head before marked head = record {
+  is_duplicate = not head.adds && before.is_base;
+  has_no_base = head.adds && not before.is_base;
+  is_unproductive = not before.is_head && marked;
+}
 
 -- the name of the block's head has a rule, beside which there is a mark
 abbrev pub HasMark : List Name → List Seen → Excerpt → Type 0
@@ -60,15 +61,15 @@ HaveRules names (block ∷ blocks) = ((head : Head) → head_of block.items ≡ 
 -- nothing is found at the node: its name stands for a rule, if it has one, and no range and no repetition is empty
 abbrev pub is_sound : Node → Bool
 is_sound (Ref name None) = false
-is_sound (Span low high) = not (nat_lt high low)
-is_sound (Rep least (Some most) body) = not (nat_lt most least)
+is_sound (Span low high) = not (is_turned (Some (low, high)))
+is_sound (Rep least most body) = not (is_above least most)
 is_sound _ = true
 
 -- nothing is found where the part stands
 abbrev pub is_sound_part : Part → Bool
 is_sound_part (ref name None) = false
-is_sound_part (span low high) = not (nat_lt high low)
-is_sound_part (rep least (Some most) p) = not (nat_lt most least)
+is_sound_part (span low high) = not (is_turned (Some (low, high)))
+is_sound_part (rep least most p) = not (is_above least most)
 is_sound_part _ = true
 
 -- nothing is found where the parts of a rule stand

@@ -1,6 +1,6 @@
 -- What is known of blocks, by the roles of their heads and by marks of names.
 use Rattle.std.specs.Prelude.{ℕ, Bool, false, not, ◌&&◌, List, [], ◌∷◌, Option, Some, None}
-use Rattle.abnf_productive.specs.Marks.{mark_at}
+use Rattle.abnf_lint.specs.Marks.{mark_at}
 use Rattle.abnf_outcome.specs.declared.digest.HeadNumber.{HeadNumber}
 use Rattle.abnf_outcome.specs.declared.digest.BlockDigest.{BlockDigest}
 use Rattle.abnf_outcome.specs.declared.found_in.BlockTold.{BlockTold}
@@ -23,8 +23,8 @@ flags held led (block ∷ blocks) (role ∷ roles) = flag held led block.head ro
 flags held led _ _ = []
 
 -- The name with this number is marked neither as one that a block defines nor as one of a core rule.
-abbrev pub is_strange : List Bool → List Bool → ℕ → Bool
-is_strange defined core number = not (mark_at defined number) && not (mark_at core number)
+abbrev pub is_strange_number : List Bool → List Bool → ℕ → Bool
+is_strange_number defined core number = not (mark_at defined number) && not (mark_at core number)
 
 -- The word is a marked name.
 abbrev pub is_marked_name : (ℕ → Bool) → Word → Bool

@@ -1,7 +1,7 @@
 -- Roles of heads as they are kept, block for block.
 use Rattle.std.specs.Prelude.{◌≡◌, ℕ, Bool, true, false, not, ◌&&◌, List, length, Option, Some, None, slice_get, slice_set, take, if◌then◌else◌}
 use Rattle.abnf_parts.specs.Names.{Name}
-use Rattle.abnf_productive.specs.Marks.{mark_at}
+use Rattle.abnf_lint.specs.Marks.{mark_at}
 use Rattle.abnf_digests.specs.Digests.{Digest}
 use Rattle.abnf_digests.specs.Roles.{Role, role_by}
 use Rattle.abnf_outcome.specs.declared.digest.HeadNumber.{HeadNumber}

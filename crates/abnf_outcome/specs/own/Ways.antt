@@ -5,7 +5,7 @@ use Rattle.std.specs.Option.{option_map_or}
 use Rattle.abnf_parts.specs.Core.{is_core_name}
 use Rattle.abnf_parts.specs.Names.{Name, rule_number}
 use Rattle.abnf_parts.specs.Part.{Part, ref, opaque, subparts}
-use Rattle.abnf_productive.specs.Marks.{mark_at}
+use Rattle.abnf_lint.specs.Marks.{mark_at}
 use Rattle.abnf_digests.specs.Digests.{Digest}
 use Rattle.abnf_outcome.specs.declared.digest.HeadNumber.{HeadNumber}
 use Rattle.abnf_outcome.specs.declared.digest.BlockDigest.{BlockDigest}

@@ -5,8 +5,8 @@ use Rattle.ls_devices.specs.declared.fault.ServeFault.{ServeFault}
 use Rattle.ls_desk.specs.Stands.{IsSound, Seen}
 use Rattle.ls_workers.specs.Count.{Counts}
 use Rattle.ls_workers.specs.Jobs.{HasLimits}
-use Rattle.ls_workers.specs.Seats.{Agrees, HasCause, ToldClient, since}
-use Rattle.ls_workers.specs.declared.behind.SeatFault.{SeatFault}
+use Rattle.ls_workers.specs.Seats.{Agrees, HasCause, AuditLog, since}
+use Rattle.ls_workers.specs.declared.board_state.SeatFault.{SeatFault}
 use Rattle.ls_threads.specs.Ends.{has_failed, has_met_full_session, result_of}
 use Rattle.ls_threads.specs.Settled.{is_settled}
 use Rattle.ls_devices.specs.declared.reading.ReaderEnd.{ReaderEnd}
@@ -25,13 +25,13 @@ pub record WhatThreadsLeft : Type 0 where
   pub returned : ℕ
   pub finished : ℕ
   pub sent : ℕ
-  pub told : ToldClient
+  pub audit_log : AuditLog
   pub seen : ℕ
   pub tickets : List ℕ
 
 -- by how the threads ended, how many events of each kind were counted, and what the client's seat and the writer's seat know
-abbrev pub left_by_threads : ReaderEnd Early × Wrote × Worked → ℕ × ℕ × ℕ × ℕ × ℕ → ToldClient → ℕ × List ℕ → WhatThreadsLeft
-left_by_threads (heard, wrote, worked) (client, took, returned, finished, sent) told (seen, tickets) = record {
+abbrev pub left_by_threads : ReaderEnd Early × Wrote × Worked → ℕ × ℕ × ℕ × ℕ × ℕ → AuditLog → ℕ × List ℕ → WhatThreadsLeft
+left_by_threads (heard, wrote, worked) (client, took, returned, finished, sent) audit_log (seen, tickets) = record {
   heard = heard;
   wrote = wrote;
   worked = worked;
@@ -40,7 +40,7 @@ left_by_threads (heard, wrote, worked) (client, took, returned, finished, sent) 
   returned = returned;
   finished = finished;
   sent = sent;
-  told = told;
+  audit_log = audit_log;
   seen = seen;
   tickets = tickets;
 }
@@ -54,7 +54,7 @@ HasCounts journal events left desk = Counts left.client left.took left.returned 
 pub record IsAudited (journal events : ℕ) (left : WhatThreadsLeft) (desk : Seen) : Type 0 where
   pub sound : IsSound desk
   pub counts : HasCounts journal events left desk
-  pub agrees : Agrees desk.journal left.told.list (since desk.base.checkpoints left.seen left.tickets)
+  pub agrees : Agrees desk.journal left.audit_log.list (since desk.base.checkpoints left.seen left.tickets)
 
 -- What a run answers whose threads could all be made, and why: by how they ended (`result_of`), with the writer's end that of the rest of
 -- the replies where the session was full; by whether the board could be closed with these seats, and if not, what the cause is; and by
@@ -66,5 +66,5 @@ pub record IsAnswered (AreOwn : Type 0) (journal events : ℕ) (left : WhatThrea
   pub answer_is : answer ≡ result_of left.heard wrote left.worked audited settled
   pub failed_is : failed ≡ has_failed wrote
   pub wrote_is : has_met_full_session left.heard left.worked ≡ false → wrote ≡ left.wrote
-  pub cause : audited ≡ false → (fault : SeatFault) × HasCause AreOwn (HasCounts journal events left) left.told left.seen left.tickets fault
+  pub cause : audited ≡ false → (fault : SeatFault) × HasCause AreOwn (HasCounts journal events left) left.audit_log left.seen left.tickets fault
   pub desk : audited ≡ true → (desk : Seen) × IsAudited journal events left desk × (is_settled events left.heard left.worked desk ≡ settled)

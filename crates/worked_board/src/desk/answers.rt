@@ -1,12 +1,10 @@
 //! Answers for the text that was asked about, whatever has happened since.
 
-use super::steps::{
-    change, finish, hover, leaves, on_each_desk, open, opened, rename, sends_failure, take,
-    tells_findings,
-};
+use super::steps::{finish, leaves, on_each_desk, opened, sends_failure, take, tells_findings};
 use abnf_least::Shortest;
 use ls_answers::{Answer, Done};
 use ls_desk::{Desk, DeskFault, Kept, Out};
+use one_document::{change, hover, open, rename};
 use std::alloc::Global;
 use std::test::Fail;
 

@@ -1,9 +1,10 @@
 //! Requests that are cancelled, and jobs that are given back.
 
-use super::steps::{finish, leaves, on_each_desk, opened, sends_failure, symbols, take};
+use super::steps::{finish, leaves, on_each_desk, opened, sends_failure, take};
 use ls_desk::{Desk, DeskFault, Out};
 use ls_lists::List;
 use ls_rpc::Id;
+use one_document::symbols;
 use std::alloc::Global;
 use std::test::Fail;
 

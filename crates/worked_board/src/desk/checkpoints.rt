@@ -1,9 +1,10 @@
 //! A journal that begins anew.
 
 use super::answers::sends_hover;
-use super::steps::{change, finish, hover, opened, take, tells_findings};
+use super::steps::{finish, opened, take, tells_findings};
 use ls_desk::{Counts, Desk, DeskFault, Event, Kept};
 use ls_session::body_of;
+use one_document::{change, hover};
 use std::alloc::Global;
 use std::test::Fail;
 

@@ -1,9 +1,10 @@
 //! The limits of a session.
 
-use super::steps::{START, change, open, opened, symbols};
+use super::steps::opened;
 use ls_desk::{Desk, DeskFault, snapshot_of_text};
 use ls_lists::{List, Text};
 use ls_text::{Edit, Encoding, MAX_BYTES, Range};
+use one_document::{START, change, open, symbols};
 use std::alloc::{AllocError, Global};
 use std::test::Fail;
 

@@ -1,15 +1,13 @@
 //! Runs that are refused come back.
 
 use super::cancels::taken;
-use super::steps::{
-    START, change, close, comes_back, finish, job_of, leaves, on_each_desk, open, opened, symbols,
-    take,
-};
+use super::steps::{comes_back, finish, job_of, leaves, on_each_desk, opened, take};
 use ls_answers::{Ask, Done, run};
 use ls_desk::{Counts, Desk, DeskFault, Kept};
 use ls_lists::List;
 use ls_rpc::Id;
 use ls_text::Encoding;
+use one_document::{START, change, close, open, symbols};
 use std::alloc::Global;
 use std::test::Fail;
 

@@ -3,18 +3,10 @@ ghost use Rattle.std.specs.Prelude.{◌<◌, ◌≤◌};
 
 use ls_answers::{Ask, Done, Job, run};
 use ls_desk::{Desk, DeskFault, Kept, Out, SharedSnapshot};
-use ls_lists::{List, Text};
 use ls_rpc::Id;
-use ls_text::{Edit, Encoding, Position, Snapshot, TextFault};
-use std::alloc::{AllocError, Global};
-
-const URI: &str = "file:///g";
-
-/// The start of the document, where the name of its first rule stands.
-pub(crate) const START: Position = Position {
-    line: 0,
-    character: 0,
-};
+use ls_text::{Encoding, Snapshot, TextFault};
+use one_document::open;
+use std::alloc::Global;
 
 /// How many desks there are on which each worked session goes the same way.
 const DESKS: usize = 5;
@@ -43,48 +35,6 @@ pub(crate) fn on_each_desk<F: FnOnce(&mut Desk, Global) -> Result<bool, DeskFaul
         }
     }
     Ok(true)
-}
-
-fn uri(alloc: Global) -> Result<Text, AllocError> {
-    Text::from_str(alloc, URI)
-}
-
-pub(crate) fn open(desk: &mut Desk, alloc: Global, text: &str) -> Result<u64, DeskFault> {
-    desk.did_open(
-        uri(alloc)?,
-        1,
-        Text::from_str(alloc, text)?,
-        Encoding::Utf16,
-    )
-}
-
-pub(crate) fn close(desk: &mut Desk, alloc: Global) -> Result<(), DeskFault> {
-    desk.did_close(uri(alloc)?)
-}
-
-// One edit that replaces the whole text.
-fn whole(alloc: Global, text: &str) -> Result<List<Edit>, AllocError> {
-    let text = Text::from_str(alloc, text)?;
-    let mut edits = List::new(alloc);
-    edits.push(Edit { range: None, text })?;
-    Ok(edits)
-}
-
-pub(crate) fn change(desk: &mut Desk, alloc: Global, text: &str) -> Result<Option<u64>, DeskFault> {
-    desk.did_change(uri(alloc)?, 2, whole(alloc, text)?)
-}
-
-pub(crate) fn hover(desk: &mut Desk, alloc: Global, id: i64) -> Result<u64, DeskFault> {
-    desk.request(Id::Number(id), uri(alloc)?, Ask::Hover(START), false)
-}
-
-pub(crate) fn symbols(desk: &mut Desk, alloc: Global, id: i64) -> Result<u64, DeskFault> {
-    desk.request(Id::Number(id), uri(alloc)?, Ask::Symbols, false)
-}
-
-pub(crate) fn rename(desk: &mut Desk, alloc: Global, id: i64) -> Result<u64, DeskFault> {
-    let ask = Ask::Rename(START, Text::from_str(alloc, "b")?);
-    desk.request(Id::Number(id), uri(alloc)?, ask, false)
 }
 
 /// A job with a ticket, of a text, an encoding and a question of its own.

@@ -1,10 +1,11 @@
 //! Runs that are strange to a desk come back whole, and the own one is taken once.
 
 use super::answers::{sends_hover, shows};
-use super::steps::{finish, hover, job_of, on_each_desk, opened, take};
+use super::steps::{finish, job_of, on_each_desk, opened, take};
 use ls_answers::{Ask, Done, Job, run};
 use ls_desk::{Desk, DeskFault, Kept};
 use ls_text::{Encoding, Position};
+use one_document::hover;
 use std::alloc::Global;
 use std::test::Fail;
 

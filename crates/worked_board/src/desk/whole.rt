@@ -2,8 +2,9 @@
 
 use super::answers::hovers_over_a_change;
 use super::cancels::{cancels, is_over, taken};
-use super::steps::{change, finish, on_each_desk, rename, sends_failure, take, tells_findings};
+use super::steps::{finish, on_each_desk, sends_failure, take, tells_findings};
 use ls_desk::{Desk, DeskFault};
+use one_document::{change, rename};
 use std::alloc::Global;
 use std::test::Fail;
 

@@ -1,6 +1,7 @@
 //! How many lines of two texts are the same, at their front and at their back.
 
-use super::texts::{Span, applied, snapshot};
+use super::texts::{Span, applied};
+use crate::check::snapshot;
 use ls_text::{Snapshot, TextFault};
 use std::alloc::{AllocError, Global};
 

@@ -2,7 +2,7 @@
 
 ghost use Rattle.std.specs.Prelude.{◌<◌, length};
 
-use super::texts::snapshot;
+use crate::check::snapshot;
 use abnf_syntax::{Block, Headed, Item, Sheet, SyntaxFault, blocks, check_block, parse_block};
 use ls_text::{Place, TextFault};
 use std::alloc::{AllocError, Global};

@@ -3,7 +3,8 @@
 ghost use Rattle.std.specs.Prelude.{◌<◌, ◌^◌, length};
 ghost use Rattle.abnf_token.specs.Marks.{AreMarks};
 
-use super::texts::{changed, snapshot};
+use super::texts::changed;
+use crate::check::snapshot;
 use abnf_token::{Kind, Token, TokenMark, push_marks, token_at, tokens};
 use ls_text::{Snapshot, TextFault};
 use std::alloc::{AllocError, Global};

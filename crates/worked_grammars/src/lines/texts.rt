@@ -1,11 +1,10 @@
+//! Texts: their lines, offsets, positions and ranges, and what edits make of them.
+
 use super::seams::{Dice, first_other_line};
+use crate::check::snapshot;
 use ls_lists::Text;
 use ls_text::{Edit, Encoding, Place, Position, Range, Ruler, Snapshot, TextFault, Units};
 use std::alloc::{AllocError, Global};
-
-pub fn snapshot(alloc: Global, text: &str) -> Result<Snapshot, TextFault> {
-    Snapshot::of_text(alloc, String::from_str(alloc, text)?)
-}
 
 /// Texts, and how many lines they have.
 const LINE_COUNTS: &[(&str, usize)] = &[

@@ -1,3 +1,5 @@
+//! An outline, asked for and answered as a job of another crate would have it.
+
 use ls_answers::{Answer, Ask, Done, Job, Symbol, run};
 use ls_text::{Encoding, Snapshot};
 use std::alloc::Global;

@@ -1,3 +1,5 @@
+//! What a session makes of each kind of message, and the bodies that leave.
+
 use super::answers::outlined;
 use ls_answers::{Ask, Done};
 use ls_bodies::Refusal;

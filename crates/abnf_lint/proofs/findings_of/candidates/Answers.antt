@@ -1,4 +1,4 @@
-use Rattle.std.proofs.Common.{◌≡◌, ◌∙◌, ◌++◌, List, [], false, length, replicate, map, drop, ap, subst, sym, append_assoc, ◌+◌}
+use Rattle.std.proofs.Common.{◌≡◌, ◌∙◌, ◌++◌, Bool, List, [], false, length, replicate, map, drop, ap, subst, sym, append_assoc, ◌+◌}
 use Rattle.abnf_names.specs.Excerpts.{Excerpt, excerpt}
 use Rattle.abnf_lint.specs.declared.block.Seen.{Seen}
 use Rattle.abnf_lint.specs.declared.finding.Finding.{Finding}
@@ -20,7 +20,8 @@ loop-section-init c =
       none_seen g sections c.requires c.as_mut_slice-seen.result.now seen,
       ap (λ (fs : List Finding). fs ++ findings_behind c.args.marks.now g.names [] [] (map excerpt sections)) (sym c.new-found.ensures),
       have_rules g sections c.requires,
-      all_blocks_sound g sections c.requires c.in_ok-sound.sound.items c.in_ok-sound.ensures,
+      subst (λ (ms : List Bool). AreSoundWhereMarked ms g.names [] (map excerpt sections)) (sym c.as_slice.ensures.value)
+          (all_blocks_sound g sections c.requires c.in_ok-sound.sound.items c.in_ok-sound.ensures),
     )
 
 pub push_block-requires-clause-mark : goal.push_block-requires-clause-mark
@@ -47,5 +48,5 @@ loop-section-preserved c =
           ∙ (sym (append_assoc c.loop-section.found (block_findings marks names left.0 left.1 block) rest)
           ∙ ap (λ (fs : List Finding). fs ++ rest) (sym (c.in_ok-push_block.ensures.found left.0 left.1 left.2)))),
       (subst (λ (os : List Excerpt). HaveRules names os) split left.4).1,
-      (subst (λ (os : List Excerpt). AreSoundWhereMarked c.in_ok-sound.sound.items names left.1 os) split left.5).1,
+      (subst (λ (os : List Excerpt). AreSoundWhereMarked c.as_slice.result.now names left.1 os) split left.5).1,
     )

@@ -13,4 +13,4 @@ invariant-loop-section l =
     × (findings_behind l.marks l.grammar.names [] [] (map excerpt l.sections)
     ≡ l.found ++ findings_behind l.marks l.grammar.names heads bases (map excerpt (drop l.section-index l.sections)))
     × HaveRules l.grammar.names (map excerpt (drop l.section-index l.sections))
-    × AreSoundWhereMarked l.sound.items l.grammar.names bases (map excerpt (drop l.section-index l.sections))
+    × AreSoundWhereMarked l.known.sound.now l.grammar.names bases (map excerpt (drop l.section-index l.sections))

@@ -1,7 +1,7 @@
-use Rattle.std.proofs.Common.{◌≡◌, ◌∙◌, ◌∷◌, ◌+◌, List, ap, arith, drop, get_or, length, refl, suc, subst, sym}
+use Rattle.std.proofs.Common.{◌≡◌, ◌∙◌, ◌∷◌, ◌+◌, List, ap, arith, drop, get_or, length, suc, subst, sym}
 use Rattle.std.specs.Prelude.{◌||◌, not}
 use Rattle.abnf_names.specs.declared.section.Listed.{Listed}
-use Rattle.abnf_names.specs.own.Passes.{AreTold, Definition, alternatives_of}
+use Rattle.abnf_names.specs.own.Passes.{AreTold, alternatives_of}
 use Rattle.abnf_parts.specs.Names.{all_names, rule_number}
 use Rattle.abnf_names.proofs.RulePass.{HasPushed, counted_first, counted_next, counted_end}
 use Rattle.abnf_names.proofs.rules.push_counted.Goals as goal
@@ -10,7 +10,7 @@ pub loop-listed-init : goal.loop-listed-init
 loop-listed-init c = (
   c.in_ok-push_alternatives.ensures.kept,
   λ definitions told.
-      counted_first (rule_number (all_names c.args.names.now)) c.sections.inside.first c.sections.inside.rest definitions c.adds-is_defined.result
+      counted_first (rule_number (all_names c.args.numbering.now.names.now)) c.sections.inside.first c.sections.inside.rest definitions c.adds-is_defined.result
       c.args.nodes.now.items c.push_alternatives.new.nodes.items c.args.numbers.now c.push_alternatives.new.numbers
       (subst (λ (sections : List Listed). AreTold sections definitions) (sym c.sections.view_is) told) c.adds-is_defined.ensures c.in_ok-push_alternatives.ensures.alternatives,
 )
@@ -25,9 +25,9 @@ loop-listed-preserved c =
     let count = ap length c.as_slice-listed-items.ensures in (
       omega (arith, before, kept),
       λ definitions told.
-          subst (λ k. HasPushed (alternatives_of (rule_number (all_names c.args.names.now))) definitions (c.loop-listed.is_defined || not c.adds-adds.result) (drop k definitions) c.args.nodes.now.items c.push_if.new.nodes.items c.args.numbers.now c.push_if.new.numbers)
+          subst (λ k. HasPushed (alternatives_of (rule_number (all_names c.args.numbering.now.names.now))) definitions (c.loop-listed.is_defined || not c.adds-adds.result) (drop k definitions) c.args.nodes.now.items c.push_if.new.nodes.items c.args.numbers.now c.push_if.new.numbers)
           (let same : suc i + 1 ≡ suc (i + 1) = omega arith in same)
-          (counted_next (rule_number (all_names c.args.names.now)) (c.sections.inside.first ∷ rest) definitions (suc i) c.listed-item.result c.loop-listed.is_defined c.adds-adds.result
+          (counted_next (rule_number (all_names c.args.numbering.now.names.now)) (c.sections.inside.first ∷ rest) definitions (suc i) c.listed-item.result c.loop-listed.is_defined c.adds-adds.result
           c.args.nodes.now.items c.loop-listed.nodes.items c.push_if.new.nodes.items c.args.numbers.now c.loop-listed.numbers c.push_if.new.numbers
           (subst (λ (sections : List Listed). AreTold sections definitions) (sym c.sections.view_is) told) (omega (arith, lt, count)) (c.listed-item.is ∙ ap (λ (ls : List Listed). get_or ls i c.listed-item.result) c.as_slice-listed-items.ensures)
           c.adds-adds.ensures (c.loop-listed.invariant.1 definitions told) c.in_ok-push_if.ensures.alternatives),
@@ -37,5 +37,5 @@ pub returns-clause-alternatives : goal.returns-clause-alternatives
 returns-clause-alternatives c definitions told =
     let end = c.loop-listed-test.false in
     let count = ap length c.as_slice-listed-items.ensures in
-    counted_end (rule_number (all_names c.args.names.now)) (c.sections.inside.first ∷ c.sections.inside.rest) definitions (suc c.loop-listed.listed-index) c.loop-listed.is_defined c.args.nodes.now.items c.loop-listed.nodes.items c.args.numbers.now c.loop-listed.numbers
+    counted_end (rule_number (all_names c.args.numbering.now.names.now)) (c.sections.inside.first ∷ c.sections.inside.rest) definitions (suc c.loop-listed.listed-index) c.loop-listed.is_defined c.args.nodes.now.items c.loop-listed.nodes.items c.args.numbers.now c.loop-listed.numbers
     (subst (λ (sections : List Listed). AreTold sections definitions) (sym c.sections.view_is) told) (omega (arith, end, count)) (c.loop-listed.invariant.1 definitions told)

@@ -8,4 +8,4 @@ abbrev pub invariant-loop-listed : goal.invariant-loop-listed
 invariant-loop-listed l =
     (length l.fn.nodes.items ≤ length l.nodes.items)
     × ((definitions : List Definition) → AreTold l.sections definitions →
-    HasPushed (alternatives_of (rule_number (all_names l.names))) definitions l.is_defined (drop (suc l.listed-index) definitions) l.fn.nodes.items l.nodes.items l.fn.numbers l.numbers)
+    HasPushed (alternatives_of (rule_number (all_names l.numbering.names.now))) definitions l.is_defined (drop (suc l.listed-index) definitions) l.fn.nodes.items l.nodes.items l.fn.numbers l.numbers)

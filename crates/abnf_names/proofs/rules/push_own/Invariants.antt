@@ -7,4 +7,4 @@ use Rattle.abnf_names.proofs.rules.push_own.Given as goal
 abbrev pub invariant-loop-sections : goal.invariant-loop-sections
 invariant-loop-sections l =
     (definitions : List (List Definition)) → AllTold l.own definitions →
-    AddsTrees (map (tree_of (rule_number (all_names l.names))) (take l.sections-index definitions)) l.initial.nodes.items l.nodes.items l.initial.roots l.roots
+    AddsTrees (map (tree_of (rule_number (all_names l.numbering.names.now))) (take l.sections-index definitions)) l.initial.nodes.items l.nodes.items l.initial.roots l.roots

@@ -1,6 +1,6 @@
 use Rattle.std.proofs.Common.{◌∙◌, ap}
 use Rattle.std.specs.List.{list_any}
-use Rattle.abnf_productive.specs.Marks.{mark_at}
+use Rattle.abnf_lint.specs.Marks.{mark_at}
 use Rattle.abnf_outcome.specs.Words.{is_so}
 use Rattle.abnf_outcome.proofs.WordLaws.{left_any, one_holds, run_more, several_hold}
 use Rattle.abnf_outcome.proofs.evaluate.hold.Goals as goal

@@ -1,5 +1,5 @@
 use Rattle.std.proofs.Common.{◌≡◌, [], reverse, take}
-use Rattle.abnf_productive.specs.Marks.{mark_at}
+use Rattle.abnf_lint.specs.Marks.{mark_at}
 use Rattle.abnf_outcome.specs.Words.{run_words}
 use Rattle.abnf_outcome.proofs.evaluate.hold.Given as goal
 

@@ -1,12 +1,12 @@
 use Rattle.std.proofs.Common.{arith}
-use Rattle.abnf_outcome.specs.own.Flags.{is_strange}
+use Rattle.abnf_outcome.specs.own.Flags.{is_strange_number}
 use Rattle.abnf_outcome.proofs.CoreMarks.{one_mark_more}
 use Rattle.abnf_outcome.proofs.Outcomes.{all_strange}
 use Rattle.abnf_outcome.proofs.outcome.strange_marks.Goals as goal
 
 pub loop-number-preserved : goal.loop-number-preserved
 loop-number-preserved c =
-    one_mark_more (is_strange c.args.defined.now c.args.core.now) c.loop-number.number c.loop-number.marks.items c.push.new.self.items c.is_strange.result
+    one_mark_more (is_strange_number c.args.defined.now c.args.core.now) c.loop-number.number c.loop-number.marks.items c.push.new.self.items c.is_strange.result
     c.loop-number.invariant c.is_strange.ensures c.in_ok-push.ensures.items
 
 pub returns : goal.returns

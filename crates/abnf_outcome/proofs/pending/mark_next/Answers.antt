@@ -6,9 +6,9 @@ use Rattle.abnf_outcome.proofs.pending.mark_next.Goals as goal
 pub returns-in-Some-2-clause-some : goal.returns-in-Some-2-clause-some
 returns-in-Some-2-clause-some c =
     let way = c.args.way in
-    let words = c.args.words.now in
-    let blocks = c.args.blocks.now in
-    let roles = c.args.roles.now in
+    let words = c.args.swept.now.words.now in
+    let blocks = c.args.swept.now.blocks.now in
+    let roles = c.args.swept.now.roles.now in
     let before = c.loop-place.marks in
     let after = c.visit_at.new.marks in
     let place = c.in-Some.place in

@@ -7,9 +7,9 @@ use Rattle.abnf_outcome.proofs.pending.visit_all.Goals as goal
 pub loop-pending-smaller : goal.loop-pending-smaller
 loop-pending-smaller c =
     let way = c.args.way in
-    let words = c.args.words.now in
-    let blocks = c.args.blocks.now in
-    let roles = c.args.roles.now in
+    let words = c.args.swept.now.words.now in
+    let blocks = c.args.swept.now.blocks.now in
+    let roles = c.args.swept.now.roles.now in
     let before = c.loop-pending.marks in
     let after = c.mark_next.new.marks in
     next_less way words blocks roles before after c.in-Some.name
@@ -18,9 +18,9 @@ loop-pending-smaller c =
 pub loop-pending-preserved : goal.loop-pending-preserved
 loop-pending-preserved c =
     let way = c.args.way in
-    let words = c.args.words.now in
-    let blocks = c.args.blocks.now in
-    let roles = c.args.roles.now in
+    let words = c.args.swept.now.words.now in
+    let blocks = c.args.swept.now.blocks.now in
+    let roles = c.args.swept.now.roles.now in
     let before = c.loop-pending.marks in
     let after = c.mark_next.new.marks in
     let name = c.in-Some.name in

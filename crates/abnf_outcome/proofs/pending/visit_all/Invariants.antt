@@ -5,7 +5,7 @@ use Rattle.abnf_outcome.proofs.pending.visit_all.Given as goal
 
 abbrev pub invariant-loop-pending : goal.invariant-loop-pending
 invariant-loop-pending l = record {
-  sound : (table : List Name) → AreSoundByWayFor l.way table l.words l.blocks l.roles l.fn.marks → AreSoundByWayFor l.way table l.words l.blocks l.roles l.marks;
+  sound : (table : List Name) → AreSoundByWayFor l.way table l.swept.words.now l.swept.blocks.now l.swept.roles.now l.fn.marks → AreSoundByWayFor l.way table l.swept.words.now l.swept.blocks.now l.swept.roles.now l.marks;
   few : unmarked l.marks ≤ unmarked l.fn.marks;
 }
 

@@ -6,9 +6,9 @@ use Rattle.abnf_outcome.proofs.settling.lead.Goals as goal
 pub returns-then-one_is_unmarked : goal.returns-then-one_is_unmarked
 returns-then-one_is_unmarked c =
     let table = c.args.names.now in
-    let words = c.args.words.now in
-    let blocks = c.args.blocks.now in
-    let roles = c.args.roles.now in
+    let words = c.args.swept.now.words.now in
+    let blocks = c.args.swept.now.blocks.now in
+    let roles = c.args.swept.now.roles.now in
     let held = c.args.held.now in
     let All : Vec Bool Global → Type 0 = λ v. AreLeadingMarksFor table words blocks roles v.items in
     let Heads : Vec Bool Global → Type 0 = λ v. AreHeadsLedFor table words blocks roles held v.items in
@@ -16,5 +16,5 @@ returns-then-one_is_unmarked c =
 
 pub returns-else-one_is_unmarked : goal.returns-else-one_is_unmarked
 returns-else-one_is_unmarked c =
-    heads_hold c.args.names.now c.args.words.now c.args.blocks.now c.args.roles.now c.args.held.now c.new.result.items
+    heads_hold c.args.names.now c.args.swept.now.words.now c.args.swept.now.blocks.now c.args.swept.now.roles.now c.args.held.now c.new.result.items
     (sym c.one_is_unmarked.ensures ∙ c.if-one_is_unmarked.false)

@@ -8,9 +8,9 @@ use Rattle.abnf_outcome.proofs.settling.leading_marks.Goals as goal
 pub returns : goal.returns
 returns c =
     let table = c.args.names.now in
-    let words = c.args.words.now in
-    let blocks = c.args.blocks.now in
-    let roles = c.args.roles.now in
+    let words = c.args.swept.now.words.now in
+    let blocks = c.args.swept.now.blocks.now in
+    let roles = c.args.swept.now.roles.now in
     let marks = c.sweep_all.new.marks in
     let long : length marks ≡ c.in_ok-marks.marks.len = omega arith in
     subst (AreLeadingMarksFor table words blocks roles) (sym (with_items_is c.in_ok-marks.marks marks long))

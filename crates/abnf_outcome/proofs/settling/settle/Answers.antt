@@ -7,9 +7,9 @@ use Rattle.abnf_outcome.proofs.settling.settle.Goals as goal
 
 pub returns : goal.returns
 returns c =
-    let words = c.args.words.now in
-    let blocks = c.args.blocks.now in
-    let roles = c.args.roles.now in
+    let words = c.args.swept.now.words.now in
+    let blocks = c.args.swept.now.blocks.now in
+    let roles = c.args.swept.now.roles.now in
     let core = c.args.core in
     let marks = c.sweep_all.new.marks in
     let long : length marks ≡ core.len = omega arith in

@@ -1,6 +1,6 @@
 use Rattle.std.proofs.Common.{◌∙◌, ap, sym}
 use Rattle.std.specs.List.{list_any}
-use Rattle.abnf_productive.specs.Marks.{mark_at}
+use Rattle.abnf_lint.specs.Marks.{mark_at}
 use Rattle.abnf_outcome.specs.own.Ways.{says}
 use Rattle.abnf_outcome.proofs.WayLaws.{several_lead}
 use Rattle.abnf_outcome.proofs.sweep.says.Goals as goal

@@ -9,9 +9,9 @@ pub loop-passed-preserved : goal.loop-passed-preserved
 loop-passed-preserved c =
     let way = c.args.way in
     let backwards = c.args.backwards in
-    let words = c.args.words.now in
-    let blocks = c.args.blocks.now in
-    let roles = c.args.roles.now in
+    let words = c.args.swept.now.words.now in
+    let blocks = c.args.swept.now.blocks.now in
+    let roles = c.args.swept.now.roles.now in
     let marks = c.loop-passed.marks in
     let after = c.visit.new.marks in
     let passed = c.loop-passed.passed in
@@ -39,5 +39,5 @@ loop-passed-preserved c =
 
 pub returns-clause-done : goal.returns-clause-done
 returns-clause-done c = λ none.
-    all_done c.args.way c.args.backwards c.args.words.now c.args.blocks.now c.args.roles.now c.loop-passed.marks c.loop-passed.passed (omega (arith, c.loop-passed-test.false))
+    all_done c.args.way c.args.backwards c.args.swept.now.words.now c.args.swept.now.blocks.now c.args.swept.now.roles.now c.loop-passed.marks c.loop-passed.passed (omega (arith, c.loop-passed-test.false))
     (c.loop-passed.invariant.done none)

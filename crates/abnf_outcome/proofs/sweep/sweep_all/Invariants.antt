@@ -4,7 +4,7 @@ use Rattle.abnf_outcome.specs.own.Ways.{AreSoundByWayFor, unmarked}
 use Rattle.abnf_outcome.proofs.sweep.sweep_all.Given as goal
 
 abbrev pub invariant-loop-users : goal.invariant-loop-users
-invariant-loop-users l = (table : List Name) → AreSoundByWayFor l.way table l.words l.blocks l.roles l.fn.marks → AreSoundByWayFor l.way table l.words l.blocks l.roles l.marks
+invariant-loop-users l = (table : List Name) → AreSoundByWayFor l.way table l.swept.words.now l.swept.blocks.now l.swept.roles.now l.fn.marks → AreSoundByWayFor l.way table l.swept.words.now l.swept.blocks.now l.swept.roles.now l.marks
 
 abbrev pub decreases-loop-users : goal.decreases-loop-users
 decreases-loop-users l = unmarked l.marks

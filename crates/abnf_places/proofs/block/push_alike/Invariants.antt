@@ -7,4 +7,4 @@ use Rattle.abnf_places.proofs.block.push_alike.Given as goal
 -- what is left gives the places that are left
 abbrev pub invariant-loop-spot : goal.invariant-loop-spot
 invariant-loop-spot l =
-    map named_at l.initial.spots ++ wanted_places l.wanted (folded_text l.name) (map named_at l.all) ≡ map named_at l.spots ++ wanted_places l.wanted (folded_text l.name) (map named_at (drop l.spot-index l.all))
+    map named_at l.initial.spots ++ wanted_places l.sought.wanted (folded_text l.sought.name) (map named_at l.all) ≡ map named_at l.spots ++ wanted_places l.sought.wanted (folded_text l.sought.name) (map named_at (drop l.spot-index l.all))

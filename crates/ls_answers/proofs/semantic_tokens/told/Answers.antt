@@ -12,9 +12,9 @@ use Rattle.ls_answers.proofs.semantic_tokens.told.Goals as goal
 
 pub loop-line-preserved : goal.loop-line-preserved
 loop-line-preserved c = record {
-  walked = line_walked c.args.encoding c.args.grammar.now c.loop-line.line c.loop-line.tokens c.push_line.new.tokens (map named_at (drop c.loop-line.passed c.spots-spots.result.now)) (map named_at (drop c.in_ok-passed.passed c.spots-spots.result.now)) c.marks_at-marks.result.now
-      c.loop-line.invariant.walked (subst (λ t. AreMarks (slice_index_or (line_texts t) c.loop-line.line []) c.marks_at-marks.result.now) c.source-snapshot.ensures.text c.marks_at-marks.ensures)
-      (c.in_ok-passed.ensures.told ∙ ap (λ (m : Measured). c.loop-line.tokens ++ told_in_line m.encoding c.args.grammar.now c.loop-line.line c.marks_at-marks.result.now (map named_at (drop c.loop-line.passed c.spots-spots.result.now))) c.loop-line.invariant.text)
+  walked = line_walked c.args.encoding c.args.grammar.now c.loop-line.line c.loop-line.tokens c.push_line.new.tokens (map named_at (drop c.loop-line.passed c.spots-spots.result.now)) (map named_at (drop c.in_ok-passed.passed c.spots-spots.result.now)) c.marks_at.result.now
+      c.loop-line.invariant.walked (subst (λ t. AreMarks (slice_index_or (line_texts t) c.loop-line.line []) c.marks_at.result.now) c.source-snapshot.ensures.text c.marks_at.ensures)
+      (c.in_ok-passed.ensures.told ∙ ap (λ (m : Measured). c.loop-line.tokens ++ told_in_line m.encoding c.args.grammar.now c.loop-line.line c.marks_at.result.now (map named_at (drop c.loop-line.passed c.spots-spots.result.now))) c.loop-line.invariant.text)
       c.in_ok-passed.ensures.left;
   text = c.push_line.ensures.text ∙ c.loop-line.invariant.text;
   within = c.in_ok-passed.ensures.within;

@@ -34,7 +34,7 @@ returns-in_err-send_frame-clause-sends g c =
       earlier = c.replies.invariant.sent;
       frame = c.in-Some.frame.items;
       last = one.sends;
-      front = rw c.deref.ensures.value at c.in_err-send_frame.ensures.front;
+      prefix = rw c.deref.ensures.value at c.in_err-send_frame.ensures.prefix;
     })
 
 pub returns-clause-sends : goal.returns-clause-sends

@@ -1,6 +1,6 @@
 use Rattle.std.proofs.Common.{◌≡◌, false, length}
 use Rattle.ls_steps.specs.Runs.{state_at}
-use Rattle.ls_plain.specs.Runs.{SomeSent}
+use Rattle.ls_plain.specs.own.Sending.{SomeSent}
 use Rattle.ls_plain.proofs.serve.send_all.Given as goal
 
 abbrev pub invariant-replies : goal.invariant-replies

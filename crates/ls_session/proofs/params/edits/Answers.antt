@@ -1,23 +1,27 @@
-use Rattle.std.proofs.Common.{ap, sym, ◌∙◌, arith}
-use Rattle.serde_json.specs.View.{items_view}
-use Rattle.ls_session.specs.Params.{edits_of}
-use Rattle.ls_session.proofs.Changes.{Found_start, Found_some, Found_none, Found_end}
+use Rattle.std.proofs.Common.{List, sym, subst, ◌∙◌}
+use Rattle.serde_json.specs.declared.value.Value.{Value}
+use Rattle.ls_text.specs.declared.edit.Edit.{Edit}
+use Rattle.ls_session.proofs.Changes.{Found, Found_start, Found_some, Found_none, Found_end}
 use Rattle.ls_session.proofs.params.edits.Goals as goal
 
 pub loop-value-init : goal.loop-value-init
-loop-value-init c = rw c.new-found.ensures (Found_start c.deref-value-items.result.now)
+loop-value-init c =
+    let P : List Value → Type 0 = λ rest. Found c.args.values.items rest c.new-found.result in
+    let Q : List Edit → Type 0 = λ found. Found c.args.values.items c.args.values.items found in
+    subst P (sym c.into_iter-value-iterator.ensures.into_iter_gives.0) (subst Q (sym c.new-found.ensures) (Found_start c.args.values.items))
 
 pub loop-value-preserved : goal.loop-value-preserved
 loop-value-preserved c =
-    rw c.in_ok-push-in-Some.ensures.ok
-    (Found_some c.deref-value-items.result.now c.loop-value.value-index c.value-item.result c.loop-value.found c.in-Some.edit (omega arith) c.value-item.is c.loop-value.invariant (sym c.in_ok-edit.ensures ∙ c.in-Some.is))
+    let so_far = subst (λ (rest : List Value). Found c.args.values.items rest c.loop-value.found) c.in-Some.ensures.steps.0 c.loop-value.invariant in
+    let more = Found_some c.args.values.items c.next.new.self.rest.items c.in-Some.value c.loop-value.found c.in-Some-edit.edit so_far (sym c.edit.ensures ∙ c.in-Some-edit.is) in
+    subst (λ (found : List Edit). Found c.args.values.items c.next.new.self.rest.items found) (sym c.in_ok-push-in-Some-edit.ensures.ok) more
 
-pub returns-in-None : goal.returns-in-None
-returns-in-None c =
-    let none = Found_none c.deref-value-items.result.now c.loop-value.value-index c.value-item.result c.loop-value.found (omega arith) c.value-item.is c.loop-value.invariant (sym c.in_ok-edit.ensures ∙ c.in-None.is) in
-    sym none ∙ ap (λ vs. edits_of (items_view vs)) c.deref-value-items.ensures.value
+pub returns-in-None-edit : goal.returns-in-None-edit
+returns-in-None-edit c =
+    let so_far = subst (λ (rest : List Value). Found c.args.values.items rest c.loop-value.found) c.in-Some.ensures.steps.0 c.loop-value.invariant in
+    sym (Found_none c.args.values.items c.next.new.self.rest.items c.in-Some.value c.loop-value.found so_far (sym c.edit.ensures ∙ c.in-None-edit.is))
 
 pub returns : goal.returns
 returns c =
-    let all = Found_end c.deref-value-items.result.now c.loop-value.value-index c.loop-value.found c.loop-value-test.false c.loop-value.invariant in
-    sym all ∙ ap (λ vs. edits_of (items_view vs)) c.deref-value-items.ensures.value
+    let iterator = c.loop-value.value-iterator in
+    sym (Found_end c.args.values.items iterator.rest.items c.loop-value.found (sym iterator.rest.ok.0 ∙ c.in-None.ensures.steps.0) c.loop-value.invariant)

@@ -1,5 +1,5 @@
 use Rattle.std.proofs.Common.{◌∙◌, ◌+◌, sym, ap, length, [], ◌∷◌, ◌++◌, set, length-append, length-set}
-use Rattle.abnf_parts.specs.Names.{folded_text, with_name}
+use Rattle.abnf_parts.specs.Names.{folded_text}
 use Rattle.abnf_names.specs.own.Passes.{members_of, members_in, if_same}
 use Rattle.abnf_names.proofs.GroupLaws.{hit, miss}
 use Rattle.abnf_parts.proofs.NameLaws.{with_there, with_new}

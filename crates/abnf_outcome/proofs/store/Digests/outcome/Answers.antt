@@ -18,9 +18,9 @@ returns c =
           each_told digests.names digests.words.items c.as_slice-words.result.now digests.blocks.items blocks
           c.as_slice-words.ensures.value c.as_slice-blocks.ensures.value c.in_ok-roles.roles.items c.in_ok-roles.ensures.roles of kept
           (λ (v : Vec Bool Global). v.items) c.in_ok-held.held c.in_ok-led.led
-          c.deref-4.result.now c.deref-5.result.now c.deref-7.result.now c.deref-4.ensures.value c.deref-5.ensures.value c.deref-7.ensures.value
-          c.in_ok-core.core.items core c.in_ok-held.ensures c.deref-6.result.now c.deref-6.ensures.value c.in_ok-led.ensures c.deref-8.result.now c.deref-9.result.now defined
-          c.deref-8.ensures.value c.deref-9.ensures.value c.in_ok-defined.ensures.names c.in_ok-tolds.tolds.items c.in_ok-tolds.ensures;
+          c.deref-4.result.now c.deref-4.result.now c.deref-6.result.now c.deref-4.ensures.value c.deref-4.ensures.value c.deref-6.ensures.value
+          c.in_ok-core.core.items core c.in_ok-held.ensures c.deref-5.result.now c.deref-5.ensures.value c.in_ok-led.ensures c.deref-7.result.now c.deref-8.result.now defined
+          c.deref-7.ensures.value c.deref-8.ensures.value c.in_ok-defined.ensures.names c.in_ok-tolds.tolds.items c.in_ok-tolds.ensures;
       strange = λ number name at.
           c.in_ok-strange.ensures digests.names blocks (subst (AreHeadMarks digests.names blocks) (sym c.deref-2.ensures.value) heads)
           (subst (AreCoreMarks digests.names blocks) (sym c.deref-3.ensures.value) core) number name at

@@ -6,12 +6,12 @@ use Rattle.ls_history.proofs.book.Front.try_add.Goals as goal
 
 pub compare_exchange-found-requires : goal.compare_exchange-found-requires
 compare_exchange-found-requires g c =
-    let h = c.args.book.now.head_is in
+    let h = c.args.word.now.head_is in
     let offer = c.plain-offer.ensures in
     let pen = c.no_pen-pen.ensures in
     let inside = c.self.inside in
     let again = c.again-seen.ensures in
-    let book : c.again-seen.result.book ≡ c.args.book.now.head.book = ap (λ s. s.book) again ∙ (c.self.invariant.1 ∙ sym (ap (λ w. w.book) h)) in
+    let book : c.again-seen.result.book ≡ c.args.word.now.head.book = ap (λ s. s.book) again ∙ (c.self.invariant.1 ∙ sym (ap (λ w. w.book) h)) in
     let may : MayHappen (replay beginning c.again-seen.result.log) c.plain-offer.result.ask = rw (ap (λ s. s.log) again, c.self.view_is, offer.1) c.requires.possible in (
       ap (λ w. w.tracked) h,
       book,

@@ -4,4 +4,4 @@ abbrev pub ghost-client : goal.ghost-client
 ghost-client g a = a.event
 
 abbrev pub ghost-refuse : goal.ghost-refuse
-ghost-refuse g a = a.event.now
+ghost-refuse g a = a._event.now

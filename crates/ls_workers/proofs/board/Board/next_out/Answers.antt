@@ -12,7 +12,7 @@ returns-clause-nothing g c =
     let was = c.deref_mut.result.now in
     let now = c.next_out.new.self in
     let log = c.next_out.new.seat.front in
-    let all : log ≡ now.front = c.next_out.ensures.all in
+    let all : log ≡ now.history = c.next_out.ensures.all in
     let news : has_news was.stop was.desk ≡ true = search rules in
     let stays : now.stop ≡ was.stop = search rules in
     of_none c.next_out.result _ _ _

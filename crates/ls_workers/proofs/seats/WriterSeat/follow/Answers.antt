@@ -15,4 +15,4 @@ pub returns-clause-outs : goal.returns-clause-outs
 returns-clause-outs g c =
     let now = c.args.self.now in
     ap outs_of c.follow.ensures.seen
-    ∙ beside_outs now.front c.args.all.now (inl c.follow.ensures.grows) (sym c.requires ∙ (sym (c.audit.ensures.whole now.whole) ∙ now.all_left))
+    ∙ beside_outs now.front c.args.history.now (inl c.follow.ensures.grows) (sym c.requires ∙ (sym (c.audit.ensures.whole now.whole) ∙ now.all_left))

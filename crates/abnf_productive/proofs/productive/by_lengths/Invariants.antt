@@ -1,7 +1,0 @@
-use Rattle.std.proofs.Common.{◌≡◌, ℕ, ◌<◌, length}
-use Rattle.std.specs.Prelude.{◌↔◌, IsTrue}
-use Rattle.abnf_productive.specs.Marks.{IsProductive, mark_at}
-use Rattle.abnf_productive.proofs.productive.by_lengths.Given as goal
-
-abbrev pub invariant-loop-rule : goal.invariant-loop-rule
-invariant-loop-rule l = (length l.rules.items ≡ l.rule) × ((r : ℕ) → r < l.rule → IsTrue (mark_at l.rules.items r) ↔ IsProductive l.grammar.rules r)

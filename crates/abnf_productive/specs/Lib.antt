@@ -1,2 +1,0 @@
-pub mod Yields
-pub mod Marks

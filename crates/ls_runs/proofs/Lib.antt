@@ -1,4 +1,0 @@
-pub mod Askers
-pub mod Answered
-pub mod Runs
-pub mod Steps

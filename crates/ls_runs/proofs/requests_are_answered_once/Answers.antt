@@ -1,5 +1,0 @@
-use Rattle.ls_runs.proofs.Runs.{requests_once}
-use Rattle.ls_runs.proofs.requests_are_answered_once.Goals as goal
-
-pub returns : goal.returns
-returns c = requests_once

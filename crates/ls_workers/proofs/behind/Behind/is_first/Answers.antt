@@ -1,5 +1,0 @@
-use Rattle.std.proofs.Common.{rules}
-use Rattle.ls_workers.proofs.behind.Behind.is_first.Goals as goal
-
-pub returns : goal.returns
-returns = search rules depth 3
