@@ -27,9 +27,9 @@ WAYS = ("hash", "group")
 FIRST, COUNT, RUNS, MOST = 1_000, 20_000, 3, 3
 # What the code says of the seed and of the hash where meeting.rs has them as they are
 SEEDED = {
-    "crates/abnf_kept/src/blocks.rt": "Digests::new(alloc, sheet.seed())",
+    "crates/incremental_findings/src/blocks.rt": "Digests::new(alloc, sheet.seed())",
     "crates/abnf_syntax/src/sheet.rt": "let mut hasher = DefaultHasher::new();",
-    "crates/abnf_outcome/src/table.rt": "IndexSet::with_hasher(alloc, Seeded::by(seed))",
+    "crates/findings_index/src/table.rt": "IndexSet::with_hasher(alloc, Seeded::by(seed))",
     "crates/abnf_parts/src/seeded.rt": "seeded.write_u64(seed);",
 }
 

@@ -16,7 +16,7 @@ use Rattle.abnf_syntax.specs.declared.item.Item.{Item}
 use Rattle.abnf_syntax.specs.declared.tree.Rule.{Rule}
 use Rattle.abnf_syntax.specs.Grammar.{kind_of, max_nesting, Derives}
 use Rattle.abnf_syntax.specs.Heads.{head_of}
-use Rattle.abnf_syntax.specs.Kinds.{is_name, is_defined_as, is_adds}
+use Rattle.abnf_syntax.specs.Kinds.{is_name_kind, is_defined_as, is_adds}
 use Rattle.abnf_syntax.proofs.Bare.{no_fault}
 use Rattle.abnf_syntax.proofs.Cons.{cons_same}
 use Rattle.abnf_syntax.proofs.Exact.{one_rule}
@@ -87,7 +87,7 @@ derives_alike xs ys rule d l =
 -- ---- heads
 
 abbrev told_head : List Shape → Option (Name × Bool)
-told_head (x ∷ y ∷ xs) = if is_name x.0 && is_defined_as y.0 then Some (x.1, is_adds y.0) else None
+told_head (x ∷ y ∷ xs) = if is_name_kind x.0 && is_defined_as y.0 then Some (x.1, is_adds y.0) else None
 told_head _ = None
 
 head_if : (b : Bool) (head : Head) → option_map head_digest (if b then Some head else None) ≡ (if b then Some (head_digest head) else None)
@@ -97,7 +97,7 @@ head_if false head = refl
 abbrev head_from : Bool → Text → Bool → Option (Name × Bool)
 head_from b name adds = if b then Some (name, adds) else None
 
-head_told : (kind : Kind) (t : Text) (b c : Bool) → head_from (is_name kind && b) (lowercase t) c ≡ head_from (is_name kind && b) (bare_text kind t) c
+head_told : (kind : Kind) (t : Text) (b c : Bool) → head_from (is_name_kind kind && b) (lowercase t) c ≡ head_from (is_name_kind kind && b) (bare_text kind t) c
 head_told k.Name t b c = refl
 head_told kind t b c = refl
 
@@ -105,7 +105,7 @@ head_by_told : (xs : List Item) → option_map head_digest (head_of xs) ≡ told
 head_by_told [] = refl
 head_by_told (x ∷ []) = refl
 head_by_told (x ∷ y ∷ xs) =
-    head_if (is_name (kind_of x) && is_defined_as (kind_of y)) _
+    head_if (is_name_kind (kind_of x) && is_defined_as (kind_of y)) _
     ∙ head_told (kind_of x) x.token.text.now (is_defined_as (kind_of y)) (is_adds (kind_of y))
 
 -- ---- names
@@ -136,9 +136,9 @@ some_if false p q = refl
 some_head : (xs : List Item) → is_some (shape_head (map shape xs)) ≡ is_some (shape_head (map told_shape xs))
 some_head [] = refl
 some_head (x ∷ []) = refl
-some_head (x ∷ y ∷ xs) = some_if (is_name (kind_of x) && is_defined_as (kind_of y)) _ _
+some_head (x ∷ y ∷ xs) = some_if (is_name_kind (kind_of x) && is_defined_as (kind_of y)) _ _
 
-named_told : (kind : Kind) (t : Text) (d : Bool) → map lower_role (if is_name kind then (t, d) ∷ [] else []) ≡ (if is_name kind then (bare_text kind t, d) ∷ [] else [])
+named_told : (kind : Kind) (t : Text) (d : Bool) → map lower_role (if is_name_kind kind then (t, d) ∷ [] else []) ≡ (if is_name_kind kind then (bare_text kind t, d) ∷ [] else [])
 named_told k.Name t d = refl
 named_told kind t d = refl
 

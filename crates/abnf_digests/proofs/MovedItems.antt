@@ -17,7 +17,7 @@ use Rattle.abnf_syntax.specs.Faults.{place_of}
 use Rattle.abnf_syntax.specs.Grammar.{kind_of}
 use Rattle.abnf_syntax.specs.Heads.{head_of}
 use Rattle.abnf_syntax.specs.Items.{with_line_end, items_behind, items_of, AreTokens, AreItems, view}
-use Rattle.abnf_syntax.specs.Kinds.{is_item, is_name, is_bad, is_defined_as, is_adds}
+use Rattle.abnf_syntax.specs.Kinds.{is_item, is_name_kind, is_bad, is_defined_as, is_adds}
 use Rattle.abnf_names.specs.Places.{Named, named, is_number_kind, is_touched, use_after, uses_after, places_in}
 use Rattle.abnf_digests.specs.SameLines.{AreSameLines}
 use Rattle.abnf_digests.proofs.Placed.{Placed, same, place_by, placed}
@@ -183,11 +183,11 @@ abbrev Told : Type 0
 Told = Text × Place × Bool
 
 abbrev placed_head : List Placed → Option Told
-placed_head (x ∷ y ∷ xs) = if is_name x.0 && is_defined_as y.0 then Some (x.1, x.3, is_adds y.0) else None
+placed_head (x ∷ y ∷ xs) = if is_name_kind x.0 && is_defined_as y.0 then Some (x.1, x.3, is_adds y.0) else None
 placed_head _ = None
 
 abbrev placed_named : Bool → Placed → List Named
-placed_named defines x = if is_name x.0 then record { text = x.1; place = x.3; defines = defines } ∷ [] else []
+placed_named defines x = if is_name_kind x.0 then record { text = x.1; place = x.3; defines = defines } ∷ [] else []
 
 abbrev placed_use : Kind → Placed → List Named
 placed_use before x = if not x.2 && (is_bad before || is_number_kind before) then [] else placed_named false x
@@ -214,7 +214,7 @@ module _ (g : ℕ → ℕ) where
   head_is : (xs : List Item) → option_map told_head (head_of xs) ≡ placed_head (map (placed g same) xs)
   head_is [] = refl
   head_is (x ∷ []) = refl
-  head_is (x ∷ y ∷ xs) = head_if (is_name (kind_of x) && is_defined_as (kind_of y)) _
+  head_is (x ∷ y ∷ xs) = head_if (is_name_kind (kind_of x) && is_defined_as (kind_of y)) _
 
   some_told : (o : Option Head) → is_some o ≡ is_some (option_map told_head o)
   some_told None = refl
@@ -225,7 +225,7 @@ module _ (g : ℕ → ℕ) where
   named_if false n = refl
 
   named_is : (defines : Bool) (x : Item) → map named_by (named defines x) ≡ placed_named defines (placed g same x)
-  named_is defines x = named_if (is_name (kind_of x)) _
+  named_is defines x = named_if (is_name_kind (kind_of x)) _
 
   use_if : (b : Bool) (ns : List Named) → map named_by (if b then [] else ns) ≡ (if b then [] else map named_by ns)
   use_if true ns = refl

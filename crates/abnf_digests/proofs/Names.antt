@@ -14,7 +14,7 @@ use Rattle.abnf_syntax.specs.declared.item.Item.{Item}
 use Rattle.abnf_syntax.specs.Grammar.{kind_of}
 use Rattle.abnf_syntax.specs.Faults.{place_of}
 use Rattle.abnf_syntax.specs.Heads.{head_of}
-use Rattle.abnf_syntax.specs.Kinds.{is_adds, is_name, is_defined_as}
+use Rattle.abnf_syntax.specs.Kinds.{is_adds, is_name_kind, is_defined_as}
 use Rattle.abnf_parts.specs.Names.{Name}
 use Rattle.abnf_parts.specs.Core.{core_rules, core_name, is_needed}
 use Rattle.abnf_parts.proofs.NameLaws.{same_refl}
@@ -54,7 +54,7 @@ module _ (own : List Name) where
   use_if false item = tt
 
   use_known : (item : Item) → AreKnown (named false item)
-  use_known item = use_if (is_name (kind_of item)) item
+  use_known item = use_if (is_name_kind (kind_of item)) item
 
   unless_touched : (b : Bool) (item : Item) → AreKnown (if b then [] else named false item)
   unless_touched true item = tt
@@ -73,7 +73,7 @@ module _ (own : List Name) where
 
   head_text : (first : Item) (items : List Item) (head : Head) → head_of (first ∷ items) ≡ Some head → lowercase first.token.text.now ≡ name_of head
   head_text first [] head e = absurd (cc)
-  head_text first (second ∷ items) head e = head_if first second head (is_name (kind_of first)) (is_defined_as (kind_of second)) e
+  head_text first (second ∷ items) head e = head_if first second head (is_name_kind (kind_of first)) (is_defined_as (kind_of second)) e
 
   name_if : (b : Bool) (first : Item) → IsOwn (lowercase first.token.text.now) → AreKnown (if b then record { text = first.token.text.now; place = place_of first.token; defines = true } ∷ [] else [])
   name_if true first own = (λ e. own, tt)
@@ -81,7 +81,7 @@ module _ (own : List Name) where
 
   first_known : (first : Item) (items : List Item) (o : Option Head) → head_of (first ∷ items) ≡ o → IsOwnHead (option_map name_of o) → AreKnown (named (is_some o) first)
   first_known first items None e h = use_known first
-  first_known first items (Some head) e h = name_if (is_name (kind_of first)) first (ap (λ name. list_any (bytes_eq name) own) (head_text first items head e) ∙ h)
+  first_known first items (Some head) e h = name_if (is_name_kind (kind_of first)) first (ap (λ name. list_any (bytes_eq name) own) (head_text first items head e) ∙ h)
 
   places_known : (items : List Item) → IsOwnHead (option_map name_of (head_of items)) → AreKnown (places_in items)
   places_known [] h = tt

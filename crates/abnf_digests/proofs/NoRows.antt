@@ -20,7 +20,7 @@ use Rattle.abnf_syntax.specs.declared.tree.Rule.{Rule}
 use Rattle.abnf_syntax.specs.Faults.{FaultRow, last_of, least, open_from, place_after, place_of, rows_of, shown}
 use Rattle.abnf_syntax.specs.Grammar.{kind_of}
 use Rattle.abnf_syntax.specs.Heads.{head_of}
-use Rattle.abnf_syntax.specs.Kinds.{is_defined_as, is_name}
+use Rattle.abnf_syntax.specs.Kinds.{is_defined_as, is_name_kind}
 use Rattle.abnf_parts.specs.Names.{Name, rule_number}
 use Rattle.abnf_names.specs.Said.{Block, BlockSays, name_of}
 use Rattle.abnf_names.specs.Places.{Named, places_in}
@@ -91,7 +91,7 @@ none_or false x fault h is = subst IsPlaced (same_Some x fault is) h
 
 shown_placed : (front rest : List Item) (fault : SyntaxFault) → shown front rest ≡ Some fault → IsPlaced fault
 shown_placed [] [] fault is = absurd (none-some fault is)
-shown_placed [] (item ∷ rest) fault is = none_or (is_name (kind_of item)) (f.NoName (place_of item.token)) fault tt is
+shown_placed [] (item ∷ rest) fault is = none_or (is_name_kind (kind_of item)) (f.NoName (place_of item.token)) fault tt is
 shown_placed (head ∷ []) [] fault is = subst IsPlaced (same_Some (f.NoDefinedAs (place_after head.token)) fault is) tt
 shown_placed (head ∷ []) (item ∷ rest) fault is = none_or (is_defined_as (kind_of item)) (f.NoDefinedAs (place_of item.token)) fault tt is
 shown_placed (head ∷ defined ∷ body) rest fault is =

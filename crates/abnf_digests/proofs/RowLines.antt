@@ -17,7 +17,7 @@ use Rattle.abnf_syntax.specs.declared.tree.Rule.{Rule}
 use Rattle.abnf_syntax.specs.Grammar.{kind_of}
 use Rattle.abnf_syntax.specs.Heads.{head_of}
 use Rattle.abnf_syntax.specs.Items.{with_line_end, items_behind, items_of, AreTokens, AreItems, view}
-use Rattle.abnf_syntax.specs.Kinds.{is_item, is_name, is_defined_as, is_adds}
+use Rattle.abnf_syntax.specs.Kinds.{is_item, is_name_kind, is_defined_as, is_adds}
 use Rattle.abnf_names.specs.Said.{Block, BlockSays, IsWithin}
 use Rattle.abnf_names.specs.Places.{Named, named, is_touched, use_after, uses_after, places_in}
 use Rattle.abnf_lint.specs.declared.finding.Code.{Code}
@@ -92,7 +92,7 @@ module _ (low high : ℕ) where
   named_if false n h = tt
 
   named_within : (defines : Bool) (x : Item) → ItemWithin low high x → AllByRecursion NamedWithin (named defines x)
-  named_within defines x h = named_if (is_name (kind_of x)) _ h
+  named_within defines x h = named_if (is_name_kind (kind_of x)) _ h
 
   use_if : (b : Bool) (ns : List Named) → AllByRecursion NamedWithin ns → AllByRecursion NamedWithin (if b then [] else ns)
   use_if true ns h = tt
@@ -114,7 +114,7 @@ module _ (low high : ℕ) where
   head_within : (xs : List Item) (head : Head) → AllByRecursion (ItemWithin low high) xs → head_of xs ≡ Some head → IsAtLine low high head.name.line
   head_within [] head all is = absurd (none-some head is)
   head_within (x ∷ []) head all is = absurd (none-some head is)
-  head_within (x ∷ y ∷ xs) head all is = by (is_name (kind_of x) && is_defined_as (kind_of y)) is
+  head_within (x ∷ y ∷ xs) head all is = by (is_name_kind (kind_of x) && is_defined_as (kind_of y)) is
     where
       by : (b : Bool) → (if b then Some (record { name = x.token; adds = is_adds (kind_of y) }) else None) ≡ Some head → IsAtLine low high head.name.line
       by true e = subst (λ (h : Head). IsAtLine low high h.name.line) (same_Some (record { name = x.token; adds = is_adds (kind_of y) }) head e) all.0

@@ -13,7 +13,7 @@ use Rattle.abnf_syntax.specs.declared.item.Item.{Item}
 use Rattle.abnf_syntax.specs.declared.tree.Rule.{Rule}
 use Rattle.abnf_syntax.specs.Grammar.{kind_of, Derives}
 use Rattle.abnf_syntax.specs.Heads.{head_of}
-use Rattle.abnf_syntax.specs.Kinds.{is_name, is_defined_as}
+use Rattle.abnf_syntax.specs.Kinds.{is_name_kind, is_defined_as}
 use Rattle.abnf_syntax.proofs.Bare.{no_fault}
 use Rattle.abnf_syntax.proofs.Cons.{cons_same}
 use Rattle.abnf_syntax.proofs.Exact.{one_rule}
@@ -47,7 +47,7 @@ head_if false head = refl
 head_by_shape : (xs : List Item) → option_map head_digest (head_of xs) ≡ shape_head (map shape xs)
 head_by_shape [] = refl
 head_by_shape (x ∷ []) = refl
-head_by_shape (x ∷ y ∷ xs) = head_if (is_name (kind_of x) && is_defined_as (kind_of y)) _
+head_by_shape (x ∷ y ∷ xs) = head_if (is_name_kind (kind_of x) && is_defined_as (kind_of y)) _
 
 abbrev told_used : List (Text × Bool) → List Name
 told_used told = map (λ (p : Text × Bool). lowercase p.0) (filter (λ (p : Text × Bool). not p.1) told)

@@ -11,7 +11,7 @@ use Rattle.abnf_syntax.specs.declared.fault.SyntaxFault.{SyntaxFault}
 use Rattle.abnf_syntax.specs.declared.fault.SyntaxFault.TheVariants as f
 use Rattle.abnf_syntax.specs.declared.item.Item.{Item}
 use Rattle.abnf_syntax.specs.Grammar.{kind_of, max_nesting}
-use Rattle.abnf_syntax.specs.Kinds.{is_name, is_defined_as, is_bad, is_repeat, opens, closes, closes_it, begins_element, begins_repetition, needs_element, ends_element}
+use Rattle.abnf_syntax.specs.Kinds.{is_name_kind, is_defined_as, is_bad, is_repeat_kind, opens, closes, closes_it, begins_element, begins_repetition, needs_element, ends_element}
 use Rattle.abnf_syntax.specs.Numbers.{numbers_fit}
 use Rattle.abnf_syntax.specs.Faults.{FaultRow, place_of, last_of, without_first, open_after, open_from, rows_of, least, shown, Faults}
 use Rattle.abnf_rename.proofs.ItemShapes.{Shape, shape}
@@ -53,7 +53,7 @@ placed_rows last brackets (x ∷ rest) =
     ∷ (not (begins_repetition x.0) && needs_element last.0, f.ElementExpected x.3)
     ∷ (is_defined_as x.0 && ends_element last.0, f.ElementExpected x.3)
     ∷ (closes x.0 && outside brackets, f.ElementExpected x.3)
-    ∷ (is_repeat x.0 && not (followed rest), f.ElementExpected x.3)
+    ∷ (is_repeat_kind x.0 && not (followed rest), f.ElementExpected x.3)
     ∷ (begins_repetition x.0 && (ends_element last.0 && not x.2), f.BlankExpected x.3)
     ∷ (closes x.0 && (other_than brackets x.0 && ends_element last.0), f.Unclosed (inner brackets x.3))
     ∷ (not (numbers_fit x.0 x.1), f.NumberTooLarge x.3)
@@ -77,7 +77,7 @@ placed_open brackets (x ∷ xs) = placed_open (placed_after brackets x) xs
 
 abbrev placed_shown : List Placed → List Placed → Option SyntaxFault
 placed_shown [] [] = None
-placed_shown [] (x ∷ rest) = if is_name x.0 then None else Some (f.NoName x.3)
+placed_shown [] (x ∷ rest) = if is_name_kind x.0 then None else Some (f.NoName x.3)
 placed_shown (head ∷ []) [] = Some (f.NoDefinedAs (after head.3))
 placed_shown (head ∷ []) (x ∷ rest) = if is_defined_as x.0 then None else Some (f.NoDefinedAs x.3)
 placed_shown (head ∷ defined ∷ body) rest = least (placed_rows (placed_last (spot_of defined) body) (placed_open [] body) rest)
@@ -131,7 +131,7 @@ module _ (g h : ℕ → ℕ) where
 
   shown_placed : (front rest : List Item) → option_map (fault_by g h) (shown front rest) ≡ placed_shown (map (placed g h) front) (map (placed g h) rest)
   shown_placed [] [] = refl
-  shown_placed [] (x ∷ rest) = unless (is_name (kind_of x)) _
+  shown_placed [] (x ∷ rest) = unless (is_name_kind (kind_of x)) _
   shown_placed (head ∷ []) [] = refl
   shown_placed (head ∷ []) (x ∷ rest) = unless (is_defined_as (kind_of x)) _
   shown_placed (head ∷ defined ∷ body) rest =

@@ -11,7 +11,7 @@ use Rattle.abnf_cert.specs.Accepted.{top, in_a_row, all_in_a_row, times, referre
 use Rattle.abnf_least.specs.own.Form.{Form, text, never, row, one_of, repeated, refers, entry_given, better, first_least, part_form, node_form, repetition_form}
 use Rattle.abnf_least.proofs.Choice.{is_choice}
 use Rattle.abnf_least.specs.Table.{InRange}
-use Rattle.abnf_least.specs.own.Search.{Settled, IsDone, AreGiven, form_or, form_at}
+use Rattle.abnf_least.specs.own.Search.{Settled, IsExhausted, AreGiven, form_or, form_at}
 use Rattle.std.proofs.Common.{Result, Ok, Err}
 use Rattle.std.specs.Prelude.{IfOk}
 
@@ -71,7 +71,7 @@ pair_of : (e f : Entry) → ((l h c : ℕ) → e ≡ Least l h c → (d : ℕ) �
 pair_of Nothing f some none = subst (λ x. SamePair Nothing x) (sym (none refl)) tt
 pair_of (Least l h c) f some none = let r = some l h c refl in subst (λ x. SamePair (Least l h c) x) (sym r.1) (refl, refl)
 
-pub done_same : (form : ℕ → Form) (at : ℕ → Entry) → Settled form at → IsDone form at → (n : ℕ) → SamePair (at n) (entry_given at (form n))
+pub done_same : (form : ℕ → Form) (at : ℕ → Entry) → Settled form at → IsExhausted form at → (n : ℕ) → SamePair (at n) (entry_given at (form n))
 done_same form at s done n = pair_of (at n) (entry_given at (form n)) (s.follows n) (done n)
 
 all_range : (at : ℕ → Entry) (ns : List ℕ) → ((n : ℕ) → InRange (at n)) → AllByRecursion InRange (map at ns)
@@ -124,7 +124,7 @@ same_form root n opaque node is = ap (node_form root) is
 
 -- the certificate holds what the table gives each part
 pub accepted :
-    (trees : List Part) (at : ℕ → Entry) (cert : List Entry) → Settled (form_at trees) at → IsDone (form_at trees) at →
+    (trees : List Part) (at : ℕ → Entry) (cert : List Entry) → Settled (form_at trees) at → IsExhausted (form_at trees) at →
     length cert ≡ length (parts_of trees) → ((n : ℕ) → entry_at cert n ≡ entry_given at (form_at trees n)) → ((n : ℕ) → InRange (entry_at cert n)) → IsAccepted trees cert
 accepted trees at cert s done one_each is range =
     let same : (n : ℕ) → SamePair (at n) (entry_at cert n) = λ n. subst (λ e. SamePair (at n) e) (sym (is n)) (done_same (form_at trees) at s done n) in
@@ -138,7 +138,7 @@ accepted trees at cert s done one_each is range =
           (given_fits (entry_at cert) (root_number trees) range n p (subst InRange given (range n)));
     }
 
-pub accepted_given : (trees : List Part) (table cert : List Entry) → Settled (form_at trees) (entry_at table) → IsDone (form_at trees) (entry_at table) → AreGiven trees table cert → IsAccepted trees cert
+pub accepted_given : (trees : List Part) (table cert : List Entry) → Settled (form_at trees) (entry_at table) → IsExhausted (form_at trees) (entry_at table) → AreGiven trees table cert → IsAccepted trees cert
 accepted_given trees table cert s done v = accepted trees (entry_at table) cert s done v.one_each v.each v.lengths
 
 pub if_ok : {T E : Type 0} (r : Result T E) {P Q : T → Type 0} → IfOk r P → ((x : T) → P x → Q x) → IfOk r Q

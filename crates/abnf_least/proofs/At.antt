@@ -14,7 +14,7 @@ use Rattle.abnf_cert.proofs.Checked.{stands_at}
 use Rattle.abnf_least.specs.declared.candidate.Candidate.{Candidate}
 use Rattle.abnf_least.specs.own.Form.{Form, never, entry_given, node_form}
 use Rattle.abnf_least.specs.own.Queue.{LeavesQueue}
-use Rattle.abnf_least.specs.own.Search.{form_or, form_at, IsGiven, IsFound, IsDone, AllWait, candidate}
+use Rattle.abnf_least.specs.own.Search.{form_or, form_at, HasGivenPair, IsFound, IsExhausted, AllWait, candidate}
 use Rattle.abnf_least.proofs.Accept.{same_form}
 use Rattle.abnf_least.proofs.Settle.{some_least}
 use Rattle.abnf_least.proofs.SearchStep.{first_of_all, others_wait, all_wait}
@@ -36,15 +36,15 @@ pub past_form : (trees : List Part) (n : ℕ) → length (parts_of trees) ≤ n 
 past_form trees n past = ap (form_or (root_number trees) n) (slice_get_past (parts_of trees) n past)
 
 module _ (trees : List Part) (table : List Entry) (x : Candidate) (e : Entry) where
-  pub given_from : x.number < length table → entry_at table x.number ≡ Nothing → e ≡ entry_given (entry_at table) (form_at trees x.number) → HasPair x.length x.height e → IsGiven (form_at trees) table x
+  pub given_from : x.number < length table → entry_at table x.number ≡ Nothing → e ≡ entry_given (entry_at table) (form_at trees x.number) → HasPair x.length x.height e → HasGivenPair (form_at trees) table x
   given_from within waits is pair =
       record { within = within; waits = waits; choice = pair.0; given = sym is ∙ pair.1 }
 
-  pub pair_from : e ≡ entry_given (entry_at table) (form_at trees x.number) → IsGiven (form_at trees) table x → HasPair x.length x.height e
+  pub pair_from : e ≡ entry_given (entry_at table) (form_at trees x.number) → HasGivenPair (form_at trees) table x → HasPair x.length x.height e
   pair_from is g = (g.choice, is ∙ g.given)
 
 module _ (trees : List Part) (table : List Entry) (old new : List Candidate) (x : Candidate) (one_each : length table ≡ length (parts_of trees)) (waiting : AllWait (form_at trees) (entry_at table) old) where
-  pub found : LeavesQueue old x new → IsGiven (form_at trees) table x → IsFound (form_at trees) table x new
+  pub found : LeavesQueue old x new → HasGivenPair (form_at trees) table x → IsFound (form_at trees) table x new
   found leaves g =
       record {
         is_given = g;
@@ -52,14 +52,14 @@ module _ (trees : List Part) (table : List Entry) (old new : List Candidate) (x 
         others = others_wait (form_at trees) (entry_at table) old new x waiting leaves;
       }
 
-  pub passed : LeavesQueue old x new → (IsGiven (form_at trees) table x → ⊥) → AllWait (form_at trees) (entry_at table) new
+  pub passed : LeavesQueue old x new → (HasGivenPair (form_at trees) table x → ⊥) → AllWait (form_at trees) (entry_at table) new
   passed leaves not_given =
       all_wait (form_at trees) table old new x refl waiting leaves (λ k past. past_form trees k (omega (arith, one_each))) not_given
 
 nowhere : (x : Candidate) → Contains [] x → ⊥
 nowhere x (k, within, is) = omega arith
 
-pub done_from : (form : ℕ → Form) (at : ℕ → Entry) (queue : List Candidate) → AllWait form at queue → queue ≡ [] → IsDone form at
+pub done_from : (form : ℕ → Form) (at : ℕ → Entry) (queue : List Candidate) → AllWait form at queue → queue ≡ [] → IsExhausted form at
 done_from form at queue waiting empty k waits =
     ⊎_elim
     (λ none. none)

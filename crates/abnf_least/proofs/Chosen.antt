@@ -11,7 +11,7 @@ use Rattle.abnf_parts.specs.Part.{Part, parts_of}
 use Rattle.abnf_cert.specs.Accepted.{in_a_row, all_in_a_row, times, referred, entry_at, IsAccepted}
 use Rattle.abnf_least.specs.own.Form.{Form, text, never, row, one_of, repeated, refers, repetition_form, node_form, entry_given, first_least}
 use Rattle.abnf_least.specs.Table.{InRange, IsUnchosen}
-use Rattle.abnf_least.specs.own.Search.{IsDone, IsSearchState, AreGiven, form_at}
+use Rattle.abnf_least.specs.own.Search.{IsExhausted, IsSearchState, AreGiven, form_at}
 use Rattle.abnf_least.proofs.Accept.{SamePair, given_alike, done_same, accepted_given}
 use Rattle.abnf_least.proofs.At.{past_form, done_from}
 
@@ -93,7 +93,7 @@ pub none_chosen : (form : ℕ → Form) (table : List Entry) → ChosenUpTo form
 none_chosen form table = record { one_each = refl; chosen = λ n below. absurd (omega arith); left = λ n past. refl }
 
 module _ (trees : List Part) (old : List Entry) (s : IsSearchState trees old []) where
-  pub done : IsDone (form_at trees) (entry_at old)
+  pub done : IsExhausted (form_at trees) (entry_at old)
   done = done_from (form_at trees) (entry_at old) [] s.waiting refl
 
   given_same : (n : ℕ) → SamePair (entry_at old n) (entry_given (entry_at old) (form_at trees n))

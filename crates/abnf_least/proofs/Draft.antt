@@ -15,18 +15,18 @@ use Rattle.abnf_parts.specs.Nodes.{IsNode, AreNodes}
 use Rattle.abnf_cert.specs.Accepted.{entry_at, IsAccepted}
 use Rattle.abnf_least.specs.declared.work.Task.{Task}
 use Rattle.abnf_least.specs.declared.work.Task.TheVariants.{Write, End}
-use Rattle.abnf_least.specs.own.Walk.{IsBelowTop, choice_of, keep, keep_by, keep_all, keep_times, keep_some, work_after, leaf_text, Place, LiesWithin, AllLieWithin, IsNodeOf, IsTaskOf, WritesPart, Does}
+use Rattle.abnf_least.specs.own.Walk.{IsBelowTop, choice_of, keep, keep_by, keep_all, keep_times, keep_some, work_after, leaf_text, WrittenPlace, LiesWithin, AllLieWithin, IsNodeOf, IsTaskOf, WritesPart, Does}
 use Rattle.abnf_least.proofs.Weight.{room, weight_of, weight}
 use Rattle.abnf_least.proofs.Complete.{IsShort, NodeSentence, Complete, part_at}
 use Rattle.abnf_least.proofs.WalkStep.{AllShort, keep_short, start, short_below, next_step}
 
 -- a part that was written before stands at its place
-abbrev pub IsNoted : List Part → List ℕ → ℕ → Place → Type 0
+abbrev pub IsNoted : List Part → List ℕ → ℕ → WrittenPlace → Type 0
 IsNoted roots w n None = Unit {0}
 IsNoted roots w n (Some x) = (x.0 ≤ x.1) × (x.1 ≤ length w) × NodeSentence roots n (slice_range w x.0 x.1)
 
 -- what holds of the work that is left, the text that is written and the places of parts in it
-pub record IsDraft (roots : List Part) (cert : List Entry) (r : ℕ) (ts : List Task) (w : List ℕ) (ps : List Place) : Type 0 where
+pub record IsDraft (roots : List Part) (cert : List Entry) (r : ℕ) (ts : List Task) (w : List ℕ) (ps : List WrittenPlace) : Type 0 where
   pub short : AllShort (entry_at cert) ts
   pub complete : Complete roots r ts w
   pub noted : (n : ℕ) → IsNoted roots w n (get_or ps n None)
@@ -81,7 +81,7 @@ range_all : (w : List ℕ) (i : ℕ) → i ≤ length w → slice_range w i (len
 range_all w i low = take_all (length w - i) (drop i w) (omega (arith, length-drop i w))
 
 -- a place stays right where more is written
-noted_more : (roots : List Part) (w t : List ℕ) (n : ℕ) (p : Place) → IsNoted roots w n p → IsNoted roots (w ++ t) n p
+noted_more : (roots : List Part) (w t : List ℕ) (n : ℕ) (p : WrittenPlace) → IsNoted roots w n p → IsNoted roots (w ++ t) n p
 noted_more roots w t n None h = tt
 noted_more roots w t n (Some x) h = (h.0, omega (arith, h.1, length-append w t), subst (NodeSentence roots n) (sym (range_more w t x.0 x.1 h.0 h.1)) h.2)
 
@@ -91,14 +91,14 @@ short_weight count n (Least l h c) s = omega (arith, s.0, mul-suc l (room count 
 
 module _ (roots : List Part) (cert : List Entry) (accepted : IsAccepted roots cert) (r : ℕ) where
   -- what a task leads to
-  abbrev pub LeadsTo : ℕ → List Task → List ℕ → List Place → Type 0
+  abbrev pub LeadsTo : ℕ → List Task → List ℕ → List WrittenPlace → Type 0
   LeadsTo most ts w ps = IsDraft roots cert r ts w ps × (left (entry_at cert) (length (parts_of roots)) ts < most)
 
-  led : (most : ℕ) (ts ts' : List Task) (w w' : List ℕ) (ps ps' : List Place) → ts' ≡ ts → w' ≡ w → ps' ≡ ps → LeadsTo most ts w ps → LeadsTo most ts' w' ps'
+  led : (most : ℕ) (ts ts' : List Task) (w w' : List ℕ) (ps ps' : List WrittenPlace) → ts' ≡ ts → w' ≡ w → ps' ≡ ps → LeadsTo most ts w ps → LeadsTo most ts' w' ps'
   led most ts ts' w w' ps ps' a b c h =
       subst (λ x. LeadsTo most x w' ps') (sym a) (subst (λ x. LeadsTo most ts x ps') (sym b) (subst (λ x. LeadsTo most ts w x) (sym c) h))
 
-  module _ (ts : List Task) (w : List ℕ) (ps : List Place) where
+  module _ (ts : List Task) (w : List ℕ) (ps : List WrittenPlace) where
     copied : (n : ℕ) (x : ℕ × ℕ) → IsDraft roots cert r (Write n ∷ ts) w ps → get_or ps n None ≡ Some x → LeadsTo (left (entry_at cert) (length (parts_of roots)) (Write n ∷ ts)) ts (w ++ slice_range w x.0 x.1) ps
     copied n x d e =
         let noted : IsNoted roots w n (Some x) = subst (IsNoted roots w n) e (d.noted n) in
@@ -114,7 +114,7 @@ module _ (roots : List Part) (cert : List Entry) (accepted : IsAccepted roots ce
 
     ended : (n from : ℕ) → IsDraft roots cert r (End n from ∷ ts) w ps → LeadsTo (left (entry_at cert) (length (parts_of roots)) (End n from ∷ ts)) ts w (set ps n (Some (from, length w)))
     ended n from d =
-        let place : Place = Some (from, length w) in
+        let place : WrittenPlace = Some (from, length w) in
         let sentence = d.complete.1 in
         let known : n < length (parts_of roots) = slice_get_within (parts_of roots) n sentence.0 sentence.1 in
         let within : n < length ps = omega (arith, d.one_each) in
@@ -150,7 +150,7 @@ module _ (roots : List Part) (cert : List Entry) (accepted : IsAccepted roots ce
           omega arith,
         )
 
-    written : (n : ℕ) (place : Place) → get_or ps n None ≡ place → (ts' : List Task) (w' : List ℕ) (ps' : List Place) → WritesPart roots (entry_at cert) n place ts w ps ts' w' ps' → IsDraft roots cert r (Write n ∷ ts) w ps →
+    written : (n : ℕ) (place : WrittenPlace) → get_or ps n None ≡ place → (ts' : List Task) (w' : List ℕ) (ps' : List WrittenPlace) → WritesPart roots (entry_at cert) n place ts w ps ts' w' ps' → IsDraft roots cert r (Write n ∷ ts) w ps →
         LeadsTo (left (entry_at cert) (length (parts_of roots)) (Write n ∷ ts)) ts' w' ps'
     written n None e ts' w' ps' does d =
         let x = does.0 in
@@ -158,7 +158,7 @@ module _ (roots : List Part) (cert : List Entry) (accepted : IsAccepted roots ce
         (expanded n d x.0 x.1)
     written n (Some x) e ts' w' ps' does d = led (left (entry_at cert) (length (parts_of roots)) (Write n ∷ ts)) ts ts' (w ++ slice_range w x.0 x.1) w' ps ps' does.0 does.1 does.2 (copied n x d e)
 
-    pub does_more : (task : Task) (ts' : List Task) (w' : List ℕ) (ps' : List Place) → Does roots (entry_at cert) task ts w ps ts' w' ps' → IsDraft roots cert r (task ∷ ts) w ps → LeadsTo (left (entry_at cert) (length (parts_of roots)) (task ∷ ts)) ts' w' ps'
+    pub does_more : (task : Task) (ts' : List Task) (w' : List ℕ) (ps' : List WrittenPlace) → Does roots (entry_at cert) task ts w ps ts' w' ps' → IsDraft roots cert r (task ∷ ts) w ps → LeadsTo (left (entry_at cert) (length (parts_of roots)) (task ∷ ts)) ts' w' ps'
     does_more (Write n) ts' w' ps' does d = written n (get_or ps n None) refl ts' w' ps' does d
     does_more (End n from) ts' w' ps' does d = led (left (entry_at cert) (length (parts_of roots)) (End n from ∷ ts)) ts ts' w w' (set ps n (Some (from, length w))) ps' does.0 does.1 does.2 (ended n from d)
 
@@ -166,14 +166,14 @@ module _ (roots : List Part) (cert : List Entry) (accepted : IsAccepted roots ce
     task_of (Write n) d = (part_at roots cert accepted n (short_below (entry_at cert n) d.short.0)).0
     task_of (End n from) d = let sentence = d.complete.1 in slice_get_within (parts_of roots) n sentence.0 sentence.1
 
-  lies_within : (w : List ℕ) (n : ℕ) (p : Place) → IsNoted roots w n p → LiesWithin (length w) p
+  lies_within : (w : List ℕ) (n : ℕ) (p : WrittenPlace) → IsNoted roots w n p → LiesWithin (length w) p
   lies_within w n None h = tt
   lies_within w n (Some x) h = (h.0, h.1)
 
-  pub all_lie_within : (ts : List Task) (w : List ℕ) (ps : List Place) → IsDraft roots cert r ts w ps → AllLieWithin (length w) ps
+  pub all_lie_within : (ts : List Task) (w : List ℕ) (ps : List WrittenPlace) → IsDraft roots cert r ts w ps → AllLieWithin (length w) ps
   all_lie_within ts w ps d n = lies_within w n (get_or ps n None) (d.noted n)
 
-  abbrev no_place : Place
+  abbrev no_place : WrittenPlace
   no_place = None
 
   none_at : (count n : ℕ) → get_or (replicate count no_place) n no_place ≡ no_place
@@ -182,13 +182,13 @@ module _ (roots : List Part) (cert : List Entry) (accepted : IsAccepted roots ce
   none_at (suc count) (suc n) = none_at count n
 
   -- before the first task
-  pub first_draft : r < length roots → IsBelowTop (entry_at cert (root_number roots r)) → (ps : List Place) (count : ℕ) → ps ≡ replicate count None → count ≡ length (parts_of roots) →
+  pub first_draft : r < length roots → IsBelowTop (entry_at cert (root_number roots r)) → (ps : List WrittenPlace) (count : ℕ) → ps ≡ replicate count None → count ≡ length (parts_of roots) →
       IsDraft roots cert r (keep (entry_at cert) (root_number roots r) []) [] ps
   first_draft known below ps count is all =
       record {
         short = keep_short (entry_at cert) (root_number roots r) [] below tt;
         complete = start roots cert accepted r known below;
-        noted = λ n. subst (IsNoted roots [] n) (sym (ap (λ (x : List Place). get_or x n None) is ∙ none_at count n)) tt;
+        noted = λ n. subst (IsNoted roots [] n) (sym (ap (λ (x : List WrittenPlace). get_or x n None) is ∙ none_at count n)) tt;
         one_each = ap length is ∙ (length-replicate count None ∙ all);
       }
 

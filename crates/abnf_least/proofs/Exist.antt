@@ -10,7 +10,7 @@ use Rattle.abnf_parts.specs.Part.{Part, quoted, series, span, seq, alt, rep, ref
 use Rattle.abnf_cert.specs.Accepted.{NotBefore, top, times, referred, entry_at, IsAccepted}
 use Rattle.abnf_least.specs.own.Form.{Form, text, never, row, one_of, repeated, refers, entry_given, better, first_least, is_before, part_form, repetition_form}
 use Rattle.abnf_least.specs.Table.{InRange, unsettled}
-use Rattle.abnf_least.specs.own.Search.{Settled, IsNextPart, IsDone, form_or, form_at}
+use Rattle.abnf_least.specs.own.Search.{Settled, IsNextPart, IsExhausted, form_or, form_at}
 use Rattle.abnf_least.proofs.Choice.{earlier}
 use Rattle.abnf_least.proofs.Settle.{nothing_least, not_before_nothing, some_least, row_range, none_settled, settled_more}
 use Rattle.abnf_least.proofs.Height.{settle_one, unsettled_up}
@@ -188,7 +188,7 @@ module _ (trees : List Part) (short : AreShort trees) where
       }
 
   abbrev Settles : Type 0
-  Settles = (table : List Entry) × IsPartly trees table × IsDone (form_at trees) (entry_at table)
+  Settles = (table : List Entry) × IsPartly trees table × IsExhausted (form_at trees) (entry_at table)
 
   done : (table : List Entry) → IsPartly trees table → NoneGiven (form_at trees) (entry_at table) (length table) → Settles
   done table s none = (table, s, λ k waits. ⊎_elim (λ less. none k less waits) (λ beyond. past table s k beyond) (cases_lt k (length table)))

@@ -11,7 +11,7 @@ use Rattle.abnf_least.specs.declared.candidate.Candidate.{Candidate}
 use Rattle.abnf_least.specs.own.Form.{Form, text, never, row, one_of, repeated, refers, needs, entry_given}
 use Rattle.abnf_least.specs.Table.{InRange, IsUnchosen, IsUpTo, HasRoomAbove, unsettled}
 use Rattle.abnf_least.specs.own.Queue.{LeavesQueue}
-use Rattle.abnf_least.specs.own.Search.{IsDone, IsNextPart, OthersWait, AllWait, IsGiven, IsFound, offered, IsOffered, Keeps, IsSearchState, form_at, candidate}
+use Rattle.abnf_least.specs.own.Search.{IsExhausted, IsNextPart, OthersWait, AllWait, HasGivenPair, IsFound, offered, IsOffered, Keeps, IsSearchState, form_at, candidate}
 use Rattle.abnf_least.specs.declared.users.Users.{Users}
 use Rattle.abnf_least.specs.own.Users.{Uses, AreUsers}
 use Rattle.abnf_least.proofs.Settle.{among, nothing_least, moved_to, some_least, none_settled, given_same, choice_from, settled_more}
@@ -34,7 +34,7 @@ others_wait form at old new x waiting leaves k l h d apart waits given =
     (others_there old new x leaves (candidate l h k) (waiting k l h d waits given))
 
 -- where the first isn't to be settled, the others wait still
-pub all_wait : (form : ℕ → Form) (table : List Entry) (old new : List Candidate) (x : Candidate) → length table ≡ length table → AllWait form (entry_at table) old → LeavesQueue old x new → ((k : ℕ) → length table ≤ k → form k ≡ never) → (IsGiven form table x → ⊥) → AllWait form (entry_at table) new
+pub all_wait : (form : ℕ → Form) (table : List Entry) (old new : List Candidate) (x : Candidate) → length table ≡ length table → AllWait form (entry_at table) old → LeavesQueue old x new → ((k : ℕ) → length table ≤ k → form k ≡ never) → (HasGivenPair form table x → ⊥) → AllWait form (entry_at table) new
 all_wait form table old new x _ waiting leaves past not_given k l h d waits given =
     ⊎_elim
     (λ same.
@@ -162,7 +162,7 @@ none_at (suc n) zero = refl
 none_at (suc n) (suc m) = none_at n m
 
 -- where no part is given an entry any more, nothing waits
-pub stands_done : (trees : List Part) (table : List Entry) (queue : List Candidate) → IsSearchState trees table queue → IsDone (form_at trees) (entry_at table) → IsSearchState trees table []
+pub stands_done : (trees : List Part) (table : List Entry) (queue : List Candidate) → IsSearchState trees table queue → IsExhausted (form_at trees) (entry_at table) → IsSearchState trees table []
 stands_done trees table queue s done =
     record {
       one_each = s.one_each;

@@ -10,7 +10,7 @@
 ghost use Rattle.std.specs.Prelude.{IfNone, IfOk, IfSome, IsTrue, OnOk, ◌≡◌, ◌↔◌, [], length};
 ghost use Rattle.abnf_parts.specs.Part.{parts_of};
 ghost use Rattle.abnf_cert.specs.Accepted.{IsAccepted, entry_at};
-ghost use Rattle.abnf_least.specs.own.Search.{AllWait, AreGiven, IsDone, IsFound, IsGiven, IsSearchState, form_at};
+ghost use Rattle.abnf_least.specs.own.Search.{AllWait, AreGiven, IsExhausted, IsFound, HasGivenPair, IsSearchState, form_at};
 ghost use Rattle.abnf_least.specs.Table.{HasRoomAbove, NoneSettled};
 ghost use Rattle.abnf_least.specs.own.Users.{AreUsers};
 
@@ -30,7 +30,7 @@ use std::alloc::{AllocError, Global};
 fn is_given(grammar: &Grammar, table: &[Entry], candidate: Candidate) -> bool
     requires one_each { length table.now ≡ length (parts_of grammar.now.rules) }
     requires room { HasRoomAbove table.now }
-    ensures { IsTrue result ↔ IsGiven (form_at grammar.now.rules) table.now candidate }
+    ensures { IsTrue result ↔ HasGivenPair (form_at grammar.now.rules) table.now candidate }
 {
     let nodes = grammar.nodes();
     if candidate.number >= nodes.len() {
@@ -55,7 +55,7 @@ fn take_next(grammar: &Grammar, table: &[Entry], queue: &mut Queue) -> Option<Ca
     requires room { HasRoomAbove table.now }
     requires waiting { AllWait (form_at grammar.now.rules) (entry_at table.now) queue.old }
     ensures some { IfSome result (λ x. IsFound (form_at grammar.now.rules) table.now x queue.new) }
-    ensures none { IfNone result (IsDone (form_at grammar.now.rules) (entry_at table.now)) }
+    ensures none { IfNone result (IsExhausted (form_at grammar.now.rules) (entry_at table.now)) }
 {
     while let Some(candidate) = queue.pop() {
         if is_given(grammar, table, candidate) {

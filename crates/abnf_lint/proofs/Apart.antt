@@ -14,7 +14,7 @@ use Rattle.abnf_syntax.specs.declared.item.Item.{Item}
 use Rattle.abnf_syntax.specs.declared.fault.SyntaxFault.{SyntaxFault}
 use Rattle.abnf_syntax.specs.declared.fault.SyntaxFault.TheVariants as f
 use Rattle.abnf_syntax.specs.declared.tree.Rule.{Rule}
-use Rattle.abnf_syntax.specs.Kinds.{is_adds, is_defined_as, is_name}
+use Rattle.abnf_syntax.specs.Kinds.{is_adds, is_defined_as, is_name_kind}
 use Rattle.abnf_syntax.specs.Blocks.{AreBlocks}
 use Rattle.abnf_syntax.specs.Grammar.{kind_of}
 use Rattle.abnf_syntax.specs.Faults.{place_of}
@@ -31,7 +31,7 @@ use Rattle.abnf_lint.specs.declared.finding.Code.{Code}
 use Rattle.abnf_lint.specs.declared.finding.Code.TheVariants as c
 use Rattle.abnf_lint.specs.declared.finding.Finding.{Finding}
 use Rattle.abnf_lint.specs.Order.{code_row}
-use Rattle.abnf_lint.specs.own.Findings.{based, block_findings, findings_after, has_name, head_told, is_marked}
+use Rattle.abnf_lint.specs.own.Findings.{based, block_findings, findings_after, has_name, known_of_head, is_marked}
 use Rattle.abnf_lint.specs.Found.{body_found, fault_found, finding_if, head_found, is_none_of, item_found, items_found, number_found, said_found, use_found}
 use Rattle.abnf_lint.specs.Empty.{is_empty_number}
 use Rattle.abnf_lint.proofs.AllFound.{all_by, all_joined, if_all}
@@ -85,7 +85,7 @@ use_by P false false n g h = tt
 use_all : (names : List Name) (before : Kind) (item : Item) → AllByRecursion (IsUseAt (item_point item)) (flat_map (use_found (is_none_of names)) (use_after before item))
 use_all names before item =
     let n : Named = record { text = item.token.text.now; place = place_of item.token; defines = false } in
-    use_by (IsUseAt (item_point item)) (is_touched before item) (is_name (kind_of item)) n (use_found (is_none_of names))
+    use_by (IsUseAt (item_point item)) (is_touched before item) (is_name_kind (kind_of item)) n (use_found (is_none_of names))
     (if_all (IsUseAt (item_point item)) (not (is_some (rule_number names (lowercase n.text)))) c.Undefined n.place n.text (refl, refl, refl))
 
 use_differ_by : (b d : Bool) (n : Named) (g : Named → List Finding) → AllDiffer (g n) → AllDiffer (flat_map g (if b then [] else (if d then n ∷ [] else [])))
@@ -100,7 +100,7 @@ use_differ_by false false n g h = tt
 use_differ : (names : List Name) (before : Kind) (item : Item) → AllDiffer (flat_map (use_found (is_none_of names)) (use_after before item))
 use_differ names before item =
     let n : Named = record { text = item.token.text.now; place = place_of item.token; defines = false } in
-    use_differ_by (is_touched before item) (is_name (kind_of item)) n (use_found (is_none_of names))
+    use_differ_by (is_touched before item) (is_name_kind (kind_of item)) n (use_found (is_none_of names))
     (if_differ (not (is_some (rule_number names (lowercase n.text)))) c.Undefined n.place n.text)
 
 number_all : (kind : Kind) (place : Place) (text : List ℕ) → AllByRecursion (IsNumberAt (place.line, place.start)) (number_found kind place text)
@@ -242,7 +242,7 @@ said_differ names low high items (Err fault) run says =
     (fault_differ fault, fault_all low high fault (fault_within low high items fault (items_within low high (low, 0) items (inr (refl, omega arith)) run) says))
 
 heads_differ : (marks : List Bool) (names heads bases : List Name) (low high : ℕ) (head : Head) → IsAtLine low high head.name.line →
-    AllDiffer (head_found (head_told marks names heads bases head) head) × AllByRecursion (HeadAt low high) (head_found (head_told marks names heads bases head) head)
+    AllDiffer (head_found (known_of_head marks names heads bases head) head) × AllByRecursion (HeadAt low high) (head_found (known_of_head marks names heads bases head) head)
 heads_differ marks names heads bases low high head at =
     let name = name_of head in
     let place = place_of head.name in
@@ -269,14 +269,14 @@ heads_differ marks names heads bases low high head at =
 head_within : (low high : ℕ) (items : List Item) (head : Head) → AllByRecursion (ItemWithin low high) items → head_of items ≡ Some head → IsAtLine low high head.name.line
 head_within low high [] head all is = absurd (none-some head is)
 head_within low high (first ∷ []) head all is = absurd (none-some head is)
-head_within low high (first ∷ second ∷ items) head all is = by (is_name (kind_of first) && is_defined_as (kind_of second)) is
+head_within low high (first ∷ second ∷ items) head all is = by (is_name_kind (kind_of first) && is_defined_as (kind_of second)) is
   where
     by : (b : Bool) → (if b then Some (record { name = first.token; adds = is_adds (kind_of second) }) else None) ≡ Some head → IsAtLine low high head.name.line
     by true e = subst (λ (h : Head). IsAtLine low high h.name.line) (same_Some (record { name = first.token; adds = is_adds (kind_of second) }) head e) all.0
     by false e = absurd (none-some head e)
 
 head_differ : (marks : List Bool) (names heads bases : List Name) (low high : ℕ) (items : List Item) (o : Option Head) → AllByRecursion (ItemWithin low high) items → head_of items ≡ o →
-    (let found = option_map_or (λ head. head_found (head_told marks names heads bases head) head) o [] in AllDiffer found × AllByRecursion (HeadAt low high) found)
+    (let found = option_map_or (λ head. head_found (known_of_head marks names heads bases head) head) o [] in AllDiffer found × AllByRecursion (HeadAt low high) found)
 head_differ marks names heads bases low high items None all is = (tt, tt)
 head_differ marks names heads bases low high items (Some head) all is = heads_differ marks names heads bases low high head (head_within low high items head all is)
 
@@ -292,7 +292,7 @@ block_differ marks names heads bases low high block run says =
     let items_in = items_within low high (low, 0) block.items (inr (refl, omega arith)) run in
     let said = said_differ names low high block.items block.said run says in
     let head = head_differ marks names heads bases low high block.items (head_of block.items) items_in refl in
-    let xs = option_map_or (λ head. head_found (head_told marks names heads bases head) head) (head_of block.items) [] in
+    let xs = option_map_or (λ head. head_found (known_of_head marks names heads bases head) head) (head_of block.items) [] in
     let ys = said_found (is_none_of names) block.items (fault_shown block.said) in (
       joined (HeadAt low high) (SaidAt low high) xs ys (head_or_said low high) head.1 said.1 head.0 said.0,
       all_joined (At low high) xs ys (all_by (HeadAt low high) (At low high) xs (λ g h. h.0) head.1) (all_by (SaidAt low high) (At low high) ys (λ g h. h.0) said.1),

@@ -7,7 +7,7 @@ use Rattle.abnf_token.specs.declared.token.Token.{Token}
 use Rattle.abnf_syntax.specs.declared.item.Item.{Item}
 use Rattle.abnf_syntax.specs.declared.fault.SyntaxFault.{SyntaxFault}
 use Rattle.abnf_syntax.specs.declared.fault.SyntaxFault.TheVariants as f
-use Rattle.abnf_syntax.specs.Kinds.{closes, is_defined_as, is_name, opens}
+use Rattle.abnf_syntax.specs.Kinds.{closes, is_defined_as, is_name_kind, opens}
 use Rattle.abnf_syntax.specs.Grammar.{kind_of}
 use Rattle.abnf_syntax.specs.Faults.{Faults, FaultRow, innermost, last_of, least, open_after, open_from, place_after, place_of, rows_of, shown, without_first}
 use Rattle.abnf_names.specs.Rules.{fault_place}
@@ -71,7 +71,7 @@ module _ (low high : ℕ) where
 
   shown_within : (front rest : List Item) (fault : SyntaxFault) → AllByRecursion ItemWithin front → AllByRecursion ItemWithin rest → shown front rest ≡ Some fault → FaultWithin fault
   shown_within [] [] fault h all is = absurd (none-some fault is)
-  shown_within [] (item ∷ rest) fault h all is = none_or (is_name (kind_of item)) (f.NoName (place_of item.token)) fault all.0 is
+  shown_within [] (item ∷ rest) fault h all is = none_or (is_name_kind (kind_of item)) (f.NoName (place_of item.token)) fault all.0 is
   shown_within (head ∷ []) [] fault h all is = subst FaultWithin (same_Some (f.NoDefinedAs (place_after head.token)) fault is) h.0
   shown_within (head ∷ []) (item ∷ rest) fault h all is = none_or (is_defined_as (kind_of item)) (f.NoDefinedAs (place_of item.token)) fault all.0 is
   shown_within (head ∷ defined ∷ body) rest fault h all is =

@@ -12,7 +12,7 @@ use Rattle.abnf_syntax.specs.declared.fault.SyntaxFault.{SyntaxFault}
 use Rattle.abnf_syntax.specs.declared.fault.SyntaxFault.TheVariants as f
 use Rattle.abnf_syntax.specs.declared.tree.Rule.{Rule}
 use Rattle.abnf_syntax.specs.Grammar.{Derives, defined_as, kind_of}
-use Rattle.abnf_syntax.specs.Kinds.{is_adds, is_defined_as, is_name}
+use Rattle.abnf_syntax.specs.Kinds.{is_adds, is_defined_as, is_name_kind}
 use Rattle.abnf_syntax.specs.Faults.{place_of}
 use Rattle.abnf_syntax.specs.Heads.{head_of}
 use Rattle.abnf_parts.specs.Names.{Name}
@@ -39,10 +39,10 @@ record Shape (items : List Item) : Type 0 where
   name : kind_of first ≡ k.Name
   headed : is_some (head_of (first ∷ rest)) ≡ true
 
-head_there : (first second : Item) (items : List Item) (a b : Bool) → is_name (kind_of first) ≡ a → is_defined_as (kind_of second) ≡ b → (a && b) ≡ true →
+head_there : (first second : Item) (items : List Item) (a b : Bool) → is_name_kind (kind_of first) ≡ a → is_defined_as (kind_of second) ≡ b → (a && b) ≡ true →
     is_some (head_of (first ∷ second ∷ items)) ≡ true
 head_there first second items a b e h both =
-    let yes : (is_name (kind_of first) && is_defined_as (kind_of second)) ≡ true = (λ i. e i && h i) ∙ both in
+    let yes : (is_name_kind (kind_of first) && is_defined_as (kind_of second)) ≡ true = (λ i. e i && h i) ∙ both in
     ap (λ x. is_some (if x then Some (let head : Head = record { name = first.token; adds = is_adds (kind_of second) } in head) else None)) yes
 
 defined_by_it : (adds : Bool) → is_defined_as (defined_as adds) ≡ true
@@ -55,7 +55,7 @@ shape_of items rule d = record {
   rest = d.defined ∷ d.body;
   split = d.split;
   name = d.named;
-  headed = head_there d.head d.defined d.body true true (ap is_name d.named) (ap is_defined_as d.adds ∙ defined_by_it rule.adds) refl;
+  headed = head_there d.head d.defined d.body true true (ap is_name_kind d.named) (ap is_defined_as d.adds ∙ defined_by_it rule.adds) refl;
 }
 
 shape_by : (items : List Item) (said : Result Rule SyntaxFault) → BlockSays items said → fault_shown said ≡ None → Shape items
@@ -213,7 +213,7 @@ module _ (tell : Head → HeadTold) (strange : Name → Bool) (items : List Item
         let there : Contains (places_in (s.first ∷ s.rest)) n = subst (λ ys. Contains (places_in ys) n) s.split among in
         let heads : List Named = named (is_some (head_of (s.first ∷ s.rest))) s.first in
         let used : Contains (uses_after (kind_of s.first) s.rest) n = elim (Contains-append_cases heads (uses_after (kind_of s.first) s.rest) n there) [
-          | inl l ↦ absurd (let yes : n.defines ≡ true = one_by (is_name (kind_of s.first)) (is_some (head_of (s.first ∷ s.rest))) s.first n s.headed l in cc (yes, plain))
+          | inl l ↦ absurd (let yes : n.defines ≡ true = one_by (is_name_kind (kind_of s.first)) (is_some (head_of (s.first ∷ s.rest))) s.first n s.headed l in cc (yes, plain))
           | inr r ↦ r
         ] in
         sound_in e g (subst (λ ys. Contains (body_found strange ys) g) (sym s.split) (use_in strange g (kind_of s.first) s.rest n used h))

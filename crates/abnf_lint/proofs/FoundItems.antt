@@ -8,7 +8,7 @@ use Rattle.ls_text.specs.declared.position.Place.{Place}
 use Rattle.abnf_token.specs.declared.token.Kind.{Kind}
 use Rattle.abnf_token.specs.declared.token.Kind.TheVariants.{Repeat, Number}
 use Rattle.abnf_syntax.specs.declared.item.Item.{Item}
-use Rattle.abnf_syntax.specs.Kinds.{is_name}
+use Rattle.abnf_syntax.specs.Kinds.{is_name_kind}
 use Rattle.abnf_syntax.specs.Grammar.{kind_of}
 use Rattle.abnf_syntax.specs.Faults.{place_of}
 use Rattle.abnf_parts.specs.Leaf.{repeat_limits, ends_of, number_part}
@@ -103,7 +103,7 @@ named_use false item n h = none_in n h
 
 use_by : (b : Bool) (item : Item) (n : Named) → Contains (if b then [] else named false item) n → n.defines ≡ false
 use_by true item n h = none_in n h
-use_by false item n h = named_use (is_name (kind_of item)) item n h
+use_by false item n h = named_use (is_name_kind (kind_of item)) item n h
 
 pub uses_define_nothing : (before : Kind) (xs : List Item) (n : Named) → Contains (uses_after before xs) n → n.defines ≡ false
 uses_define_nothing before [] n h = none_in n h

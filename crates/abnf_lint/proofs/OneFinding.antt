@@ -26,7 +26,7 @@ use Rattle.abnf_lint.specs.declared.finding.Finding.{Finding}
 use Rattle.abnf_lint.specs.declared.told.HeadTold.{HeadTold}
 use Rattle.abnf_lint.specs.Unproductive.{AreUnproductive}
 use Rattle.abnf_lint.specs.Order.{Key, key, key_cmp}
-use Rattle.abnf_lint.specs.own.Findings.{AreFindings, AreOrdered, block_findings, findings_in, head_told}
+use Rattle.abnf_lint.specs.own.Findings.{AreFindings, AreOrdered, block_findings, findings_in, known_of_head}
 use Rattle.abnf_lint.specs.Found.{block_found, body_found, fault_found, head_found, is_none_of, item_found, items_found}
 use Rattle.abnf_lint.specs.own.Passes.{findings_behind, with_base, with_head}
 use Rattle.abnf_lint.proofs.Behind.{behind_after}
@@ -88,7 +88,7 @@ base_added : (bases : List Name) (o : Excerpt) → with_base bases (bared o) ≡
 base_added bases o = ap (base_of bases) (head_bare o.items) ∙ base_by bases (head_of o.items)
 
 block_bare : (marks : List Bool) (names heads bases : List Name) (o : Excerpt) → block_findings marks names heads bases (bared o) ≡ block_findings marks names heads bases o
-block_bare marks names heads bases o = found_bare (head_told marks names heads bases) (λ head. refl) (is_none_of names) o.items o.fault
+block_bare marks names heads bases o = found_bare (known_of_head marks names heads bases) (λ head. refl) (is_none_of names) o.items o.fault
 
 behind_bare : (marks : List Bool) (names heads bases : List Name) (blocks : List Block) → findings_behind marks names heads bases (map bare_excerpt blocks) ≡ findings_behind marks names heads bases (map excerpt_of blocks)
 behind_bare marks names heads bases [] = refl

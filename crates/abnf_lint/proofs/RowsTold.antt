@@ -23,7 +23,7 @@ use Rattle.abnf_lint.specs.Found.{block_found, is_none_of}
 use Rattle.abnf_lint.specs.Rows.{AnyBases, AnyDefines, HasHead, IsIdle, RowHolds}
 use Rattle.abnf_lint.specs.Told.{HeadStands, RowTold}
 use Rattle.abnf_lint.specs.Unproductive.{AreUnproductive}
-use Rattle.abnf_lint.specs.own.Findings.{based, has_name, head_told, is_marked}
+use Rattle.abnf_lint.specs.own.Findings.{based, has_name, known_of_head, is_marked}
 use Rattle.abnf_lint.proofs.FoundBlock.{found_are}
 use Rattle.abnf_lint.proofs.Heads.{bases_is, defines_is}
 
@@ -106,7 +106,7 @@ module _ (blocks before : List Block) (block : Block) (marks : List Bool) (are :
   names = names_of blocks
 
   abbrev tell : Head → HeadTold
-  tell = head_told marks names (defined before) (based before)
+  tell = known_of_head marks names (defined before) (based before)
 
   marked_by : (o : Option ℕ) → option_map_or (λ r. slice_index_or marks r false) o false ≡ true → (r : ℕ) × (o ≡ Some r) × IsTrue (slice_index_or marks r false)
   marked_by None e = absurd (cc e)

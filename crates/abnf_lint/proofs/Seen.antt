@@ -21,8 +21,8 @@ use Rattle.abnf_names.specs.Rules.{Grammar, IsGrammar, defined, names_of, needed
 use Rattle.abnf_names.specs.Said.{Block, name_of}
 use Rattle.abnf_names.proofs.Within.{rule_within}
 use Rattle.abnf_lint.specs.declared.block.Seen.{Seen}
-use Rattle.abnf_lint.specs.own.Findings.{has_name, head_told, is_marked}
-use Rattle.abnf_lint.specs.own.Passes.{AreSeen, HasMark, HaveRules, seen_more, seen_of, told_of_head, with_base, with_head}
+use Rattle.abnf_lint.specs.own.Findings.{has_name, known_of_head, is_marked}
+use Rattle.abnf_lint.specs.own.Passes.{HaveSeen, HasMark, HaveRules, seen_more, seen_of, told_of_head, with_base, with_head}
 use Rattle.abnf_lint.proofs.Heads.{defines_is, from_has, has_from}
 use Rattle.abnf_lint.proofs.Member.{first_in, later_in}
 
@@ -73,7 +73,7 @@ base_other false bases m n e = sym (has_other bases m n e)
 
 -- ---- a head more
 
-module _ (names heads bases : List Name) (seen : List Seen) (are : AreSeen names heads bases seen) (head : Head) (r : ℕ) (at : rule_number names (name_of head) ≡ Some r) (before : Seen)
+module _ (names heads bases : List Name) (seen : List Seen) (are : HaveSeen names heads bases seen) (head : Head) (r : ℕ) (at : rule_number names (name_of head) ≡ Some r) (before : Seen)
     (was : slice_get seen r ≡ Some before) where
   pub before_is : before ≡ seen_of heads bases (name_of head)
   before_is = same_Some before (seen_of heads bases (name_of head)) (sym was ∙ are (name_of head) r at)
@@ -112,7 +112,7 @@ module _ (names heads bases : List Name) (seen : List Seen) (are : AreSeen names
       slice_get-get_or more k before (subst (λ l. k < l) (sym (length-set seen r (seen_more before head))) inside)
       ∙ ap Some (get_or-set_other seen r k (seen_more before head) before other ∙ (get_or_from_slice_get seen k (seen_of heads bases n) before old ∙ mark_other n apart))
 
-  pub joined : AreSeen names (with_name heads (name_of head)) (based_more head.adds bases (name_of head)) more
+  pub joined : HaveSeen names (with_name heads (name_of head)) (based_more head.adds bases (name_of head)) more
   joined n k e =
       ⊎_elim
       (λ (same : k ≡ r). subst (λ j. Stands n j) (sym same) (subst (λ m. Stands m r) (sym (one_number names n (name_of head) r (e ∙ ap Some same) at)) at_rule))
@@ -122,22 +122,22 @@ module _ (names heads bases : List Name) (seen : List Seen) (are : AreSeen names
   marked_is : (marks : List Bool) → slice_index_or marks r false ≡ is_marked marks names (name_of head)
   marked_is marks = sym (ap (λ o. option_map_or (λ k. slice_index_or marks k false) o false) at)
 
-  pub found_is : (marks : List Bool) → told_of_head before (slice_index_or marks r false) head ≡ head_told marks names heads bases head
+  pub found_is : (marks : List Bool) → told_of_head before (slice_index_or marks r false) head ≡ known_of_head marks names heads bases head
   found_is marks = (λ i. told_of_head (before_is i) (marked_is marks i) head)
 
 -- with the head of a block, if it has one
-pub seen_next : (names heads bases : List Name) (seen new : List Seen) → AreSeen names heads bases seen → (block : Excerpt) (head : Head) → head_of block.items ≡ Some head
+pub seen_next : (names heads bases : List Name) (seen new : List Seen) → HaveSeen names heads bases seen → (block : Excerpt) (head : Head) → head_of block.items ≡ Some head
     → (r : ℕ) → rule_number names (name_of head) ≡ Some r → (before : Seen) → slice_get seen r ≡ Some before → new ≡ slice_set seen r (seen_more before head)
-    → AreSeen names (with_head heads block) (with_base bases block) new
+    → HaveSeen names (with_head heads block) (with_base bases block) new
 seen_next names heads bases seen new are block head e r at before was is =
-    let more : AreSeen names (with_name heads (name_of head)) (based_more head.adds bases (name_of head)) new =
-    subst (λ (marks : List Seen). AreSeen names (with_name heads (name_of head)) (based_more head.adds bases (name_of head)) marks) (sym is) (joined names heads bases seen are head r at before was) in
-    subst (λ o. AreSeen names (option_map_or (λ head. with_name heads (name_of head)) o heads) (option_map_or (λ head. if head.adds then bases else with_name bases (name_of head)) o bases) new) (sym e) more
+    let more : HaveSeen names (with_name heads (name_of head)) (based_more head.adds bases (name_of head)) new =
+    subst (λ (marks : List Seen). HaveSeen names (with_name heads (name_of head)) (based_more head.adds bases (name_of head)) marks) (sym is) (joined names heads bases seen are head r at before was) in
+    subst (λ o. HaveSeen names (option_map_or (λ head. with_name heads (name_of head)) o heads) (option_map_or (λ head. if head.adds then bases else with_name bases (name_of head)) o bases) new) (sym e) more
 
-pub seen_same : (heads bases : List Name) (block : Excerpt) → head_of block.items ≡ None → (names : List Name) (seen : List Seen) → AreSeen names heads bases seen
-    → AreSeen names (with_head heads block) (with_base bases block) seen
+pub seen_same : (heads bases : List Name) (block : Excerpt) → head_of block.items ≡ None → (names : List Name) (seen : List Seen) → HaveSeen names heads bases seen
+    → HaveSeen names (with_head heads block) (with_base bases block) seen
 seen_same heads bases block e names seen are =
-    subst (λ o. AreSeen names (option_map_or (λ head. with_name heads (name_of head)) o heads) (option_map_or (λ head. if head.adds then bases else with_name bases (name_of head)) o bases) seen) (sym e) are
+    subst (λ o. HaveSeen names (option_map_or (λ head. with_name heads (name_of head)) o heads) (option_map_or (λ head. if head.adds then bases else with_name bases (name_of head)) o bases) seen) (sym e) are
 
 -- ---- the names of heads have rules
 
@@ -162,7 +162,7 @@ number_of : (o : Option ℕ) → is_some o ≡ true → (r : ℕ) × (o ≡ Some
 number_of None e = absurd (cc e)
 number_of (Some r) e = (r, refl)
 
-pub has_mark : (names heads bases : List Name) (seen : List Seen) → AreSeen names heads bases seen → (block : Excerpt) → ((head : Head) → head_of block.items ≡ Some head → has_name names (name_of head) ≡ true)
+pub has_mark : (names heads bases : List Name) (seen : List Seen) → HaveSeen names heads bases seen → (block : Excerpt) → ((head : Head) → head_of block.items ≡ Some head → has_name names (name_of head) ≡ true)
     → HasMark names seen block
 has_mark names heads bases seen are block has head e =
     let r = number_of (rule_number names (name_of head)) (has head e) in
@@ -177,7 +177,7 @@ rest_is sections i section less is =
     ∙ ((λ j. sym is j ∷ drop (suc i) sections)
     ∙ ap (λ k. section ∷ drop k sections) (let e : suc i ≡ i + 1 = omega arith in e)))
 
-pub none_seen : (g : Grammar) (sections : List Section) → HasSections g sections → (seen : List Seen) → seen ≡ replicate (length g.rules) (record { is_head = false; is_base = false }) → AreSeen g.names [] [] seen
+pub none_seen : (g : Grammar) (sections : List Section) → HasSections g sections → (seen : List Seen) → seen ≡ replicate (length g.rules) (record { is_head = false; is_base = false }) → HaveSeen g.names [] [] seen
 none_seen g sections h seen is n r e =
     let right : IsGrammar g = record { blocks = h.blocks; of_text = h.of_text; is = h.is } in
     let less : r < length g.rules = subst (λ o. IfSome o (λ k. k < length g.rules)) e (rule_within g right n) in

@@ -22,7 +22,7 @@ use Rattle.abnf_syntax.specs.declared.tree.Rule.{Rule}
 use Rattle.abnf_syntax.specs.Faults.{place_of}
 use Rattle.abnf_syntax.specs.Grammar.{kind_of, Derives}
 use Rattle.abnf_syntax.specs.Heads.{head_of}
-use Rattle.abnf_syntax.specs.Kinds.{is_name}
+use Rattle.abnf_syntax.specs.Kinds.{is_name_kind}
 use Rattle.abnf_parts.specs.declared.node.Node.{Node}
 use Rattle.abnf_parts.specs.Names.{Name, rule_number}
 use Rattle.abnf_parts.specs.Leaf.{repeat_limits, ends_of, number_part}
@@ -49,7 +49,7 @@ use Rattle.abnf_lint.proofs.Heads.{bases_is, defines_is, from_has}
 use Rattle.abnf_lint.proofs.Member.{filter_in, first_in, flat_in, in_filter, later_in}
 use Rattle.abnf_lint.proofs.Refers.{Among, TellsBy, below, is_told, items_told}
 
-is_a_name : (kind : Kind) → is_name kind ≡ true → kind ≡ k.Name
+is_a_name : (kind : Kind) → is_name_kind kind ≡ true → kind ≡ k.Name
 is_a_name k.Name h = refl
 is_a_name _ h = absurd (cc h)
 
@@ -153,9 +153,9 @@ module _ (names : List Name) where
   named_none false item known = refl
   named_none true item known = append-nil _ ∙ found_none (stands_for (lowercase item.token.text.now)) (place_of item.token) item.token.text.now (known refl)
 
-  use_none : (b : Bool) (item : Item) → (is_name (kind_of item) ≡ true → stands_for (lowercase item.token.text.now) ≡ None → ⊥) → flat_map (use_found (is_none_of names)) (if b then [] else named false item) ≡ []
+  use_none : (b : Bool) (item : Item) → (is_name_kind (kind_of item) ≡ true → stands_for (lowercase item.token.text.now) ≡ None → ⊥) → flat_map (use_found (is_none_of names)) (if b then [] else named false item) ≡ []
   use_none true item known = refl
-  use_none false item known = named_none (is_name (kind_of item)) item known
+  use_none false item known = named_none (is_name_kind (kind_of item)) item known
 
   number_none : (kind : Kind) (place : Place) (text : List ℕ) → (kind ≡ k.Repeat → is_empty_number k.Repeat text ≡ false) → (kind ≡ k.Number → is_empty_number k.Number text ≡ false)
       → number_found kind place text ≡ []
@@ -163,7 +163,7 @@ module _ (names : List Name) where
   number_none k.Number place text counts ranges = ap (λ b. finding_if b c.EmptyRange place []) (ranges refl)
   number_none _ place text counts ranges = refl
 
-  silent : (item : Item) → (is_name (kind_of item) ≡ true → stands_for (lowercase item.token.text.now) ≡ None → ⊥)
+  silent : (item : Item) → (is_name_kind (kind_of item) ≡ true → stands_for (lowercase item.token.text.now) ≡ None → ⊥)
       → (kind_of item ≡ k.Repeat → is_empty_number k.Repeat item.token.text.now ≡ false) → (kind_of item ≡ k.Number → is_empty_number k.Number item.token.text.now ≡ false) → IsSilent item
   silent item known counts ranges before =
       (λ i. use_none (is_touched before item) item known i ++ number_none (kind_of item) (place_of item.token) item.token.text.now counts ranges i)

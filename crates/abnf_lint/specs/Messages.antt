@@ -45,13 +45,13 @@ fault_text (f.TooDeep p) = codes "brackets nested too deep"
 fault_text f.Memory = codes "out of memory"
 
 -- the message of a code, with a name in those that have one
-abbrev pub message_of : Code → List ℕ → List ℕ
-message_of (c.Syntax fault) name = fault_text fault
-message_of c.NumberTooLarge name = codes "number too large"
-message_of c.TooDeep name = codes "brackets nested too deep"
-message_of c.Undefined name = codes "undefined rule " ++ name
-message_of c.Duplicate name = codes "rule " ++ name ++ codes " is already defined"
-message_of c.NoBase name = codes "no earlier definition of " ++ name
-message_of c.EmptyRepeat name = codes "repeat with minimum above maximum"
-message_of c.EmptyRange name = codes "range with low above high"
-message_of c.Unproductive name = codes "rule " ++ name ++ codes " generates nothing"
+abbrev pub finding_message : Code → List ℕ → List ℕ
+finding_message (c.Syntax fault) name = fault_text fault
+finding_message c.NumberTooLarge name = codes "number too large"
+finding_message c.TooDeep name = codes "brackets nested too deep"
+finding_message c.Undefined name = codes "undefined rule " ++ name
+finding_message c.Duplicate name = codes "rule " ++ name ++ codes " is already defined"
+finding_message c.NoBase name = codes "no earlier definition of " ++ name
+finding_message c.EmptyRepeat name = codes "repeat with minimum above maximum"
+finding_message c.EmptyRange name = codes "range with low above high"
+finding_message c.Unproductive name = codes "rule " ++ name ++ codes " generates nothing"

@@ -101,10 +101,10 @@ pub(crate) fn push_block<'t>(
 ) -> Result<(), AllocError>
     requires mark { passes.HasMark known.now.grammar.now.names seen.old (excerpt section.now) }
     requires sound { passes.IsSoundIfMarked known.now.sound.now known.now.grammar.now.names seen.old (excerpt section.now) }
-    ensures found { OnOk result ((heads bases : List Name) → passes.AreSeen known.now.grammar.now.names heads bases seen.old
+    ensures found { OnOk result ((heads bases : List Name) → passes.HaveSeen known.now.grammar.now.names heads bases seen.old
         → found.new ≡ found.old ++ spec.block_findings known.now.marks.now known.now.grammar.now.names heads bases (excerpt section.now)) }
-    ensures seen { OnOk result ((heads bases : List Name) → passes.AreSeen known.now.grammar.now.names heads bases seen.old
-        → passes.AreSeen known.now.grammar.now.names (passes.with_head heads (excerpt section.now)) (passes.with_base bases (excerpt section.now)) seen.new) }
+    ensures seen { OnOk result ((heads bases : List Name) → passes.HaveSeen known.now.grammar.now.names heads bases seen.old
+        → passes.HaveSeen known.now.grammar.now.names (passes.with_head heads (excerpt section.now)) (passes.with_base bases (excerpt section.now)) seen.new) }
 {
     match section.block.head() {
         Some(head) => {

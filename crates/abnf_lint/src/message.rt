@@ -85,7 +85,7 @@ impl Finding {
     ///
     /// Where an allocation is refused.
     pub fn message(&self, alloc: Global) -> Result<Text, AllocError>
-        ensures { IfOk result (λ text. text ≡ messages.message_of self.now.code self.now.name) }
+        ensures { IfOk result (λ text. text ≡ messages.finding_message self.now.code self.now.name) }
     {
         let name = self.name.as_str();
         match self.code {

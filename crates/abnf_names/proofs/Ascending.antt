@@ -10,7 +10,7 @@ use Rattle.abnf_token.specs.Tokens.{TokensOf}
 use Rattle.abnf_token.specs.declared.token.Kind.{Kind}
 use Rattle.abnf_token.specs.declared.token.Token.{Token}
 use Rattle.abnf_syntax.specs.declared.item.Item.{Item}
-use Rattle.abnf_syntax.specs.Kinds.{is_item, is_name}
+use Rattle.abnf_syntax.specs.Kinds.{is_item, is_name_kind}
 use Rattle.abnf_syntax.specs.Grammar.{kind_of}
 use Rattle.abnf_syntax.specs.Faults.{place_of}
 use Rattle.abnf_syntax.specs.Heads.{head_of}
@@ -139,7 +139,7 @@ if_run true p q n rest h = h
 if_run false p q n rest h = fewer p q (name_point n) (name_points rest) h
 
 named_run : (defines : Bool) (p q : Point) (item : Item) (rest : List Named) → Run p (item_point item ∷ name_points rest) q → Run p (name_points (named defines item ++ rest)) q
-named_run defines p q item rest h = if_run (is_name (kind_of item)) p q (record { text = item.token.text.now; place = place_of item.token; defines = defines }) rest h
+named_run defines p q item rest h = if_run (is_name_kind (kind_of item)) p q (record { text = item.token.text.now; place = place_of item.token; defines = defines }) rest h
 
 unless_run : (b : Bool) (p q : Point) (item : Item) (rest : List Named) → Run p (item_point item ∷ name_points rest) q → Run p (name_points ((if b then [] else named false item) ++ rest)) q
 unless_run true p q item rest h = fewer p q (item_point item) (name_points rest) h

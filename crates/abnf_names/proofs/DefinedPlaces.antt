@@ -13,7 +13,7 @@ use Rattle.abnf_syntax.specs.declared.block.Head.{Head}
 use Rattle.abnf_syntax.specs.declared.item.Item.{Item}
 use Rattle.abnf_syntax.specs.Grammar.{kind_of}
 use Rattle.abnf_syntax.specs.Heads.{head_of}
-use Rattle.abnf_syntax.specs.Kinds.{is_adds, is_name, is_defined_as}
+use Rattle.abnf_syntax.specs.Kinds.{is_adds, is_name_kind, is_defined_as}
 use Rattle.abnf_parts.specs.Names.{Name, rule_number}
 use Rattle.abnf_parts.proofs.NameLaws.{position_any}
 use Rattle.abnf_parts.proofs.NeededLaws.{any_folded}
@@ -40,13 +40,13 @@ module _ (name : Name) where
 
   -- ---- the places of a block
 
-  no_use : (item : Item) (b : Bool) → is_name (kind_of item) ≡ b → list_any is_its_head (named false item) ≡ false
+  no_use : (item : Item) (b : Bool) → is_name_kind (kind_of item) ≡ b → list_any is_its_head (named false item) ≡ false
   no_use item true e = rw e (or-false (bytes_eq name (lowercase item.token.text.now) && false) ∙ and_false (bytes_eq name (lowercase item.token.text.now)))
   no_use item false e = rw e refl
 
   unless_touched : (b : Bool) (item : Item) → list_any is_its_head (if b then [] else named false item) ≡ false
   unless_touched true item = refl
-  unless_touched false item = no_use item (is_name (kind_of item)) refl
+  unless_touched false item = no_use item (is_name_kind (kind_of item)) refl
 
   no_uses : (before : Kind) (items : List Item) → list_any is_its_head (uses_after before items) ≡ false
   no_uses before [] = refl
@@ -57,9 +57,9 @@ module _ (name : Name) where
   of_first : (item : Item) (items : List Item) → list_any is_its_head (named false item ++ uses_after (kind_of item) items) ≡ false
   of_first item items =
       list_any-append is_its_head (named false item) (uses_after (kind_of item) items)
-      ∙ (λ i. no_use item (is_name (kind_of item)) refl i || no_uses (kind_of item) items i)
+      ∙ (λ i. no_use item (is_name_kind (kind_of item)) refl i || no_uses (kind_of item) items i)
 
-  of_head : (item : Item) (items : List Item) → is_name (kind_of item) ≡ true
+  of_head : (item : Item) (items : List Item) → is_name_kind (kind_of item) ≡ true
       → list_any is_its_head (named true item ++ uses_after (kind_of item) items) ≡ bytes_eq name (lowercase item.token.text.now)
   of_head item items e =
       list_any-append is_its_head (named true item) (uses_after (kind_of item) items)
@@ -77,9 +77,9 @@ module _ (name : Name) where
   head_by first second head true false e = absurd (cc)
   head_by first second head false c e = absurd (cc)
 
-  head_is : (first : Item) (items : List Item) (head : Head) → head_of (first ∷ items) ≡ Some head → (is_name (kind_of first) ≡ true) × (lowercase first.token.text.now ≡ name_of head)
+  head_is : (first : Item) (items : List Item) (head : Head) → head_of (first ∷ items) ≡ Some head → (is_name_kind (kind_of first) ≡ true) × (lowercase first.token.text.now ≡ name_of head)
   head_is first [] head e = absurd (cc)
-  head_is first (second ∷ items) head e = head_by first second head (is_name (kind_of first)) (is_defined_as (kind_of second)) e
+  head_is first (second ∷ items) head e = head_by first second head (is_name_kind (kind_of first)) (is_defined_as (kind_of second)) e
 
   by_head : (first : Item) (items : List Item) (o : Option Head) → head_of (first ∷ items) ≡ o → list_any is_its_head (named (is_some o) first ++ uses_after (kind_of first) items) ≡ is_that (option_map name_of o)
   by_head first items None e = of_first first items

@@ -16,8 +16,8 @@ use Rattle.abnf_parts.specs.Nodes.{trees_at, AreNumbered}
 use Rattle.abnf_parts.specs.Reach.{AreReaching}
 use Rattle.abnf_names.specs.Rules.{defined, needed, undefined, names_of, rules_of, faults_of, Grammar}
 use Rattle.abnf_names.specs.Sections.{AreSections}
-use Rattle.abnf_names.specs.own.Passes.{stated, AreDefined, AreGrouped, AreNamesOfText, AreNames, AreRead, AreRules, Grouped}
-use Rattle.abnf_names.specs.declared.own.NamesOfText.{NamesOfText}
+use Rattle.abnf_names.specs.own.Passes.{stated, AreDefined, AreGrouped, AreNamesOfText, AreNames, AreRead, AreRulesOf, Grouped}
+use Rattle.abnf_names.specs.declared.text_names.NamesOfText.{NamesOfText}
 use Rattle.abnf_names.specs.declared.section.Section.{Section}
 use Rattle.abnf_token.specs.Classes.{Text}
 use Rattle.abnf_syntax.specs.Blocks.{line_texts}
@@ -81,7 +81,7 @@ rules_added sections places blocks groups own members given names listed cores n
 
 -- the rules with what leads to an opaque part
 pub rules_made : (rules : Rules) (blocks : List Block) (ns : List Node) (ts : List ℕ) → AreNames blocks rules.names × AddsTrees (rules_of blocks) [] rules.nodes.items [] rules.roots.items → ns ≡ rules.nodes.items → ts ≡ rules.roots.items →
-    AreReaching (trees_at ns ts) rules.opaque.items → AreRules blocks rules
+    AreReaching (trees_at ns ts) rules.opaque.items → AreRulesOf blocks rules
 rules_made rules blocks ns ts added nodes_from roots_from reaching = record {
   names = added.0;
   nodes = added.1;

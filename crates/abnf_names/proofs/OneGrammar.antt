@@ -25,7 +25,7 @@ use Rattle.abnf_parts.proofs.Alike.{same_alternatives}
 use Rattle.abnf_names.specs.Said.{Block, BlockSays, IsWithin, AreWithin, AreSaid, name_of}
 use Rattle.abnf_names.specs.Places.{named, use_after, uses_after, places_in, places_of}
 use Rattle.abnf_names.specs.Shown.{fault_shown}
-use Rattle.abnf_names.specs.Rules.{defines, adds, counted, head_name, defined, undefined, needed, names_of, alternatives_said, said_alternatives, rule_tree, core_tree, rules_of, fault_of, faults_of, Grammar, grammar_of, IsGrammar}
+use Rattle.abnf_names.specs.Rules.{defines, adds, counted, head_name, defined, undefined, needed, names_of, alternatives_said, said_alternatives, rule_tree, core_tree, rules_of, fault_said, faults_of, Grammar, grammar_of, IsGrammar}
 
 abbrev pub Plain : Type 0
 Plain = List Item × ((Name → Option ℕ) → List Part) × Option SyntaxFault
@@ -124,9 +124,9 @@ names_plain (block ∷ blocks) = (λ i. cons_option (name_is block i) (names_pla
 
 -- the fault with its place
 abbrev plain_fault : Plain → Option (Place × SyntaxFault)
-plain_fault p = option_map_or (λ fault. fault_of (Err fault)) p.2 None
+plain_fault p = option_map_or (λ fault. fault_said (Err fault)) p.2 None
 
-fault_is : (said : Result Rule SyntaxFault) → option_map_or (λ fault. fault_of (Err fault)) (fault_shown said) None ≡ fault_of said
+fault_is : (said : Result Rule SyntaxFault) → option_map_or (λ fault. fault_said (Err fault)) (fault_shown said) None ≡ fault_said said
 fault_is (Ok rule) = refl
 fault_is (Err fault) = refl
 

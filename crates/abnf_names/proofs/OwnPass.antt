@@ -19,7 +19,7 @@ use Rattle.abnf_syntax.specs.Heads.{head_of}
 use Rattle.abnf_syntax.proofs.Cons.{cons_same}
 use Rattle.abnf_names.specs.Said.{Block, name_of}
 use Rattle.abnf_names.specs.Places.{Named, named_at, places_in, places_of}
-use Rattle.abnf_names.specs.Rules.{defined, head_name, fault_of, block_fault, faults_of}
+use Rattle.abnf_names.specs.Rules.{defined, head_name, fault_said, block_fault, faults_of}
 use Rattle.abnf_names.specs.own.Passes.{members_of, if_same, Grouped, AreGrouped, names_defined, defines_name, section_fault, stated, with_core_name}
 use Rattle.abnf_names.specs.Excerpts.{Excerpt, excerpt, excerpt_of}
 use Rattle.abnf_names.specs.Shown.{fault_shown}
@@ -102,7 +102,7 @@ places_by (s ∷ sections) (b ∷ blocks) e =
 fault_by : (block : Block) (fault : Option SyntaxFault) (section : Section) → section.fault ≡ fault → fault ≡ fault_shown block.said → section_fault section ≡ block_fault block
 fault_by block fault section e h = by block.said (e ∙ h)
   where
-    by : (said : Result Rule SyntaxFault) → section.fault ≡ fault_shown said → section_fault section ≡ fault_of said
+    by : (said : Result Rule SyntaxFault) → section.fault ≡ fault_shown said → section_fault section ≡ fault_said said
     by (Ok rule) e = rw e refl
     by (Err fault) e = rw e refl
 

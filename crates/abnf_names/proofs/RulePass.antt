@@ -18,7 +18,7 @@ use Rattle.abnf_parts.specs.CoreTable.{core_of, number_in}
 use Rattle.abnf_parts.specs.declared.core_rule.Core.{Core}
 use Rattle.abnf_parts.proofs.ApartLaws.{map_both}
 use Rattle.abnf_names.specs.Sections.{IsSaidBy}
-use Rattle.abnf_names.specs.own.Passes.{alternatives_of, counted_among, definition_of, Definition, defines_name, is_addition, is_adding, IsToldDefinition, members_in, tree_of, AllTold, AreBeside, AreDefined, AreNames, AreTold}
+use Rattle.abnf_names.specs.own.Passes.{alternatives_of, counted_among, definition_of, HeadSaid, defines_name, is_addition, is_adding, IsToldDefinition, members_in, tree_of, AllTold, AreBeside, AreDefined, AreNames, AreTold}
 use Rattle.abnf_names.specs.Excerpts.{Excerpt, excerpt, excerpt_of}
 use Rattle.abnf_names.proofs.OwnPass.{grouped_defined}
 use Rattle.abnf_syntax.proofs.Cons.{cons_same}
@@ -28,29 +28,29 @@ use Rattle.abnf_parts.specs.Pushed.{AddsNodes, AddsTrees}
 use Rattle.abnf_parts.proofs.Pushing.{trees_none, trees_both, trees_next}
 
 -- the alternatives of those definitions in front that count, where it is known whether one with `=` was among them
-pub record HasPushed (said : Definition → List Part) (all : List Definition) (is_defined : Bool) (left : List Definition) (old new : List Node) (before after : List ℕ) : Type 0 where
-  pub front : List Definition
+pub record HasPushed (said : HeadSaid → List Part) (all : List HeadSaid) (is_defined : Bool) (left : List HeadSaid) (old new : List Node) (before after : List ℕ) : Type 0 where
+  pub front : List HeadSaid
   pub whole : counted_among all ≡ front ++ (if is_defined then filter is_adding left else counted_among left)
   pub added : AddsTrees (flat_map said front) old new before after
 
-pub pushed_none : (said : Definition → List Part) (all : List Definition) (nodes : List Node) (before : List ℕ) → HasPushed said all false all nodes nodes before before
+pub pushed_none : (said : HeadSaid → List Part) (all : List HeadSaid) (nodes : List Node) (before : List ℕ) → HasPushed said all false all nodes nodes before before
 pushed_none said all nodes before = record { front = []; whole = refl; added = trees_none nodes before }
 
-abbrev if_counts : Bool → Definition → List Definition
+abbrev if_counts : Bool → HeadSaid → List HeadSaid
 if_counts b d = if b then d ∷ [] else []
 
-one_more : (is_defined adding : Bool) (d : Definition) (left : List Definition) → is_adding d ≡ adding →
+one_more : (is_defined adding : Bool) (d : HeadSaid) (left : List HeadSaid) → is_adding d ≡ adding →
     (if is_defined then filter is_adding (d ∷ left) else counted_among (d ∷ left)) ≡ if_counts (adding || not is_defined) d ++ (if is_defined || not adding then filter is_adding left else counted_among left)
 one_more true true d left e = ap (λ b. if b then d ∷ filter is_adding left else filter is_adding left) e
 one_more true false d left e = ap (λ b. if b then d ∷ filter is_adding left else filter is_adding left) e
 one_more false true d left e = ap (λ b. d ∷ (if b then counted_among left else filter is_adding left)) e
 one_more false false d left e = ap (λ b. d ∷ (if b then counted_among left else filter is_adding left)) e
 
-if_said : (said : Definition → List Part) (b : Bool) (d : Definition) → flat_map said (if_counts b d) ≡ (if b then said d else [])
+if_said : (said : HeadSaid → List Part) (b : Bool) (d : HeadSaid) → flat_map said (if_counts b d) ≡ (if b then said d else [])
 if_said said true d = append-nil (said d)
 if_said said false d = refl
 
-pub pushed_more : (said : Definition → List Part) (all : List Definition) (is_defined adding : Bool) (d : Definition) (left : List Definition) (old mid new : List Node) (a b c : List ℕ) →
+pub pushed_more : (said : HeadSaid → List Part) (all : List HeadSaid) (is_defined adding : Bool) (d : HeadSaid) (left : List HeadSaid) (old mid new : List Node) (a b c : List ℕ) →
     HasPushed said all is_defined (d ∷ left) old mid a b → adding ≡ is_adding d → AddsTrees (if adding || not is_defined then said d else []) mid new b c → HasPushed said all (is_defined || not adding) left old new a c
 pushed_more said all is_defined adding d left old mid new a b c h e k = record {
   front = h.front ++ if_counts (adding || not is_defined) d;
@@ -64,12 +64,12 @@ if_empty : (is_defined : Bool) → (if is_defined then filter is_adding [] else 
 if_empty true = refl
 if_empty false = refl
 
-pub pushed_all : (said : Definition → List Part) (all : List Definition) (is_defined : Bool) (old new : List Node) (a c : List ℕ) → HasPushed said all is_defined [] old new a c → AddsTrees (flat_map said (counted_among all)) old new a c
+pub pushed_all : (said : HeadSaid → List Part) (all : List HeadSaid) (is_defined : Bool) (old new : List Node) (a c : List ℕ) → HasPushed said all is_defined [] old new a c → AddsTrees (flat_map said (counted_among all)) old new a c
 pushed_all said all is_defined old new a c h =
     subst (λ blocks. AddsTrees (flat_map said blocks) old new a c) (sym (h.whole ∙ (ap (λ rest. h.front ++ rest) (if_empty is_defined) ∙ append-nil h.front))) h.added
 
 -- blocks count where what they say counts
-if_adding : (a : Bool) (bs cs : List Block) (ds es : List Definition) → ds ≡ map definition_of bs → es ≡ map definition_of cs → (if a then ds else es) ≡ map definition_of (if a then bs else cs)
+if_adding : (a : Bool) (bs cs : List Block) (ds es : List HeadSaid) → ds ≡ map definition_of bs → es ≡ map definition_of cs → (if a then ds else es) ≡ map definition_of (if a then bs else cs)
 if_adding true bs cs ds es p q = p
 if_adding false bs cs ds es p q = q
 
@@ -113,17 +113,17 @@ beside_at R (x ∷ xs) (y ∷ ys) h zero d e lt = h.0
 beside_at R (x ∷ xs) (y ∷ ys) h (suc i) d e lt = beside_at R xs ys h.1 i d e (omega (arith, lt))
 
 -- the next section, and the definition that it tells
-pub counted_next : (number : Name → Option ℕ) (sections : List Listed) (definitions : List Definition) (i : ℕ) (listed : Listed) (is_defined adding : Bool) (old mid new : List Node) (a b c : List ℕ) →
+pub counted_next : (number : Name → Option ℕ) (sections : List Listed) (definitions : List HeadSaid) (i : ℕ) (listed : Listed) (is_defined adding : Bool) (old mid new : List Node) (a b c : List ℕ) →
     AreTold sections definitions → i < length sections → listed ≡ get_or sections i listed → adding ≡ is_addition listed.section.now.block.items → HasPushed (alternatives_of number) definitions is_defined (drop i definitions) old mid a b →
     ((said : Result Rule SyntaxFault) → IsSaidBy listed.section.now said → AddsTrees (if adding || not is_defined then alternatives_said number said else []) mid new b c) →
     HasPushed (alternatives_of number) definitions (is_defined || not adding) (drop (i + 1) definitions) old new a c
 counted_next number sections definitions i listed is_defined adding old mid new a b c told lt is adds h pushed =
-    let first : Definition = record { adds = adding; said = Err SyntaxFaults.Memory } in
+    let first : HeadSaid = record { adds = adding; said = Err SyntaxFaults.Memory } in
     let d = get_or definitions i first in
     let tells : IsToldDefinition listed.section.now d = subst (λ (it : Listed). IsToldDefinition it.section.now d) (sym is) (beside_at (λ listed definition. IsToldDefinition listed.section.now definition) sections definitions told i listed first lt) in
     let within : i < length definitions = subst (λ n. i < n) (beside_length (λ listed definition. IsToldDefinition listed.section.now definition) sections definitions told) lt in
     pushed_more (alternatives_of number) definitions is_defined adding d (drop (i + 1) definitions) old mid new a b c
-    (subst (λ (left : List Definition). HasPushed (alternatives_of number) definitions is_defined left old mid a b)
+    (subst (λ (left : List HeadSaid). HasPushed (alternatives_of number) definitions is_defined left old mid a b)
     (drop-cons definitions i first within ∙ ap (λ k. d ∷ drop k definitions) (let one : suc i ≡ i + 1 = omega arith in one)) h)
     (adds ∙ tells.adds) (pushed d.said tells.said)
 
@@ -132,34 +132,34 @@ counts_first true = refl
 counts_first false = refl
 
 -- the first section, which counts, and the definition that it tells
-pub counted_first : (number : Name → Option ℕ) (first : Listed) (rest : List Listed) (definitions : List Definition) (adding : Bool) (old new : List Node) (a c : List ℕ) →
+pub counted_first : (number : Name → Option ℕ) (first : Listed) (rest : List Listed) (definitions : List HeadSaid) (adding : Bool) (old new : List Node) (a c : List ℕ) →
     AreTold (first ∷ rest) definitions → adding ≡ is_addition first.section.now.block.items → ((said : Result Rule SyntaxFault) → IsSaidBy first.section.now said → AddsTrees (alternatives_said number said) old new a c) →
     HasPushed (alternatives_of number) definitions (not adding) (drop 1 definitions) old new a c
 counted_first number first rest definitions adding old new a c told adds pushed =
     counted_next number (first ∷ rest) definitions 0 first false adding old old new a a c told (omega arith) refl adds (pushed_none (alternatives_of number) definitions old a)
     (λ said says. subst (λ b. AddsTrees (if b then alternatives_said number said else []) old new a c) (counts_first adding) (pushed said says))
 
-pub counted_end : (number : Name → Option ℕ) (sections : List Listed) (definitions : List Definition) (i : ℕ) (is_defined : Bool) (old new : List Node) (a c : List ℕ) →
+pub counted_end : (number : Name → Option ℕ) (sections : List Listed) (definitions : List HeadSaid) (i : ℕ) (is_defined : Bool) (old new : List Node) (a c : List ℕ) →
     AreTold sections definitions → length sections ≤ i → HasPushed (alternatives_of number) definitions is_defined (drop i definitions) old new a c → AddsTrees (flat_map (alternatives_of number) (counted_among definitions)) old new a c
 counted_end number sections definitions i is_defined old new a c told end h =
     let same = beside_length (λ listed definition. IsToldDefinition listed.section.now definition) sections definitions told in
     pushed_all (alternatives_of number) definitions is_defined old new a c
-    (subst (λ (left : List Definition). HasPushed (alternatives_of number) definitions is_defined left old new a c) (drop_all i definitions (omega (arith, same, end))) h)
+    (subst (λ (left : List HeadSaid). HasPushed (alternatives_of number) definitions is_defined left old new a c) (drop_all i definitions (omega (arith, same, end))) h)
 
 -- the next name's rule
-pub own_next : (number : Name → Option ℕ) (own : List (List Listed)) (definitions : List (List Definition)) (i : ℕ) (listed : List Listed) (old mid new : List Node) (a b c : List ℕ) →
+pub own_next : (number : Name → Option ℕ) (own : List (List Listed)) (definitions : List (List HeadSaid)) (i : ℕ) (listed : List Listed) (old mid new : List Node) (a b c : List ℕ) →
     AllTold own definitions → i < length own → listed ≡ get_or own i listed → AddsTrees (map (tree_of number) (take i definitions)) old mid a b → c ≡ b ++ length mid ∷ [] →
-    ((said : List Definition) → AreTold listed said → AddsNodes (subparts (tree_of number said)) mid new) → AddsTrees (map (tree_of number) (take (i + 1) definitions)) old new a c
+    ((said : List HeadSaid) → AreTold listed said → AddsNodes (subparts (tree_of number said)) mid new) → AddsTrees (map (tree_of number) (take (i + 1) definitions)) old new a c
 own_next number own definitions i listed old mid new a b c told lt is h e pushed =
     let within : i < length definitions = subst (λ n. i < n) (beside_length AreTold own definitions told) lt in
     let tells : AreTold listed (get_or definitions i []) = subst (λ (it : List Listed). AreTold it (get_or definitions i [])) (sym is) (beside_at AreTold own definitions told i listed [] lt) in
     trees_next (tree_of number) definitions (get_or definitions i []) [] i old mid new a b c within refl h e (pushed (get_or definitions i []) tells)
 
-pub own_end : (number : Name → Option ℕ) (own : List (List Listed)) (definitions : List (List Definition)) (i : ℕ) (old new : List Node) (a c : List ℕ) →
+pub own_end : (number : Name → Option ℕ) (own : List (List Listed)) (definitions : List (List HeadSaid)) (i : ℕ) (old new : List Node) (a c : List ℕ) →
     AllTold own definitions → length own ≤ i → AddsTrees (map (tree_of number) (take i definitions)) old new a c → AddsTrees (map (tree_of number) definitions) old new a c
 own_end number own definitions i old new a c told end h =
     let same = beside_length AreTold own definitions told in
-    subst (λ (them : List (List Definition)). AddsTrees (map (tree_of number) them) old new a c) (take_all i definitions (omega (arith, same, end))) h
+    subst (λ (them : List (List HeadSaid)). AddsTrees (map (tree_of number) them) old new a c) (take_all i definitions (omega (arith, same, end))) h
 
 pub pushed_within : (at : ℕ) (old mid new : List Node) (node : Node) → at ≡ length old → mid ≡ old ++ node ∷ [] → length mid ≤ length new → at < length new
 pushed_within at old mid new node is pushed kept =
@@ -211,7 +211,7 @@ filter_of n (block ∷ blocks) = by (defines n block) (filter_of n blocks)
     by false rest = rest
 
 -- what is said of a name by its blocks
-abbrev own_said : List Block → Name → List Definition
+abbrev own_said : List Block → Name → List HeadSaid
 own_said blocks n = map definition_of (filter (defines n) blocks)
 
 all_told : (blocks : List Block) (own : List Name) (sections : List (List Listed)) → AreDefined blocks own sections → AllTold sections (map (own_said blocks) own)
@@ -235,7 +235,7 @@ names_are blocks names are = sym (ap (λ own. own ++ names.1) are.own ∙ ap (λ
 -- the rules of the text, and then the core rules
 pub rules_added : (blocks : List Block) (names : List Name × List Name) (sections : List (List Listed)) (cores : List Core) (first : ℕ) (old mid new : List Node) (a b c : List ℕ) → AreDefined blocks names.0 sections →
     AreNames blocks names → first ≡ length names.0 → map core_of cores ≡ needed blocks →
-    ((definitions : List (List Definition)) → AllTold sections definitions → AddsTrees (map (tree_of (rule_number (all_names names))) definitions) old mid a b) →
+    ((definitions : List (List HeadSaid)) → AllTold sections definitions → AddsTrees (map (tree_of (rule_number (all_names names))) definitions) old mid a b) →
     AddsTrees (map (λ core. (core_of core).tree (number_in first names.1)) cores) mid new b c → AddsTrees (rules_of blocks) old new a c
 rules_added blocks names sections cores first old mid new a b c defined_are are f n h k =
     let said = tree_of (rule_number (all_names names)) in

@@ -17,7 +17,7 @@ use Rattle.abnf_syntax.specs.Grammar.{Derives, HasOneRule}
 use Rattle.abnf_syntax.proofs.Exact.{parse_none, some_not_none, one_fault}
 use Rattle.abnf_syntax.proofs.Whole.{parse_complete, some_answer}
 use Rattle.abnf_parts.specs.Tree.{alternatives}
-use Rattle.abnf_names.specs.Sections.{AreAlike}
+use Rattle.abnf_names.specs.Sections.{HaveSameAlternatives}
 use Rattle.abnf_names.specs.Shown.{HasFault, fault_shown}
 
 pub none_shown : (items : List Item) (rule : Rule) → Derives items rule → HasFault items None
@@ -42,7 +42,7 @@ no_fault items fault h none f faulty = not_there h (λ shows. by_said shows.said
 
 -- what it says has the alternatives of the rule that was read
 pub alike : (items : List Item) (fault : Option SyntaxFault) → fault ≡ None → (rule : Rule) → Derives items rule → HasOneRule items → (said : Result Rule SyntaxFault) → BlockSays items said → fault ≡ fault_shown said
-    → AreAlike said (Some rule)
+    → HaveSameAlternatives said (Some rule)
 alike items fault none rule d one (Err g) says shown = let both : None ≡ Some g = sym none ∙ shown in absurd (cc)
 alike items fault none rule d one (Ok other) says shown = λ number. ap (λ (r : Rule). alternatives number r.body) (one rule other d says)
 

@@ -9,7 +9,7 @@ use Rattle.abnf_token.specs.Folded.{lowercase}
 use Rattle.ls_text.specs.declared.position.Place.{Place}
 use Rattle.ls_text.specs.Positions.{place_at}
 use Rattle.abnf_syntax.specs.declared.item.Item.{Item}
-use Rattle.abnf_syntax.specs.Kinds.{is_name, is_bad}
+use Rattle.abnf_syntax.specs.Kinds.{is_name_kind, is_bad}
 use Rattle.abnf_syntax.specs.Grammar.{kind_of}
 use Rattle.abnf_syntax.specs.Faults.{place_of}
 use Rattle.abnf_syntax.specs.Heads.{head_of}
@@ -36,7 +36,7 @@ name_place n = record { place = n.place; defines = n.defines }
 
 -- the place of an item that is a name; any other item has none
 abbrev pub named : Bool → Item → List Named
-named defines item = if is_name (kind_of item) then record { text = item.token.text.now; place = place_of item.token; defines = defines } ∷ [] else []
+named defines item = if is_name_kind (kind_of item) then record { text = item.token.text.now; place = place_of item.token; defines = defines } ∷ [] else []
 
 -- the kind is Number
 abbrev pub is_number_kind : Kind → Bool

@@ -87,13 +87,13 @@ fault_place (f.TooDeep p) = Some p
 fault_place f.Memory = None
 
 -- the fault that is said in a rule's place, and where in the text it is
-abbrev pub fault_of : Result Rule SyntaxFault → Option (Place × SyntaxFault)
-fault_of (Ok rule) = None
-fault_of (Err fault) = option_map (λ place. (place, fault)) (fault_place fault)
+abbrev pub fault_said : Result Rule SyntaxFault → Option (Place × SyntaxFault)
+fault_said (Ok rule) = None
+fault_said (Err fault) = option_map (λ place. (place, fault)) (fault_place fault)
 
 -- the fault of a block, if it shows one, with its place
 abbrev pub block_fault : Block → Option (Place × SyntaxFault)
-block_fault block = fault_of block.said
+block_fault block = fault_said block.said
 
 -- the faults of the blocks, each with its place
 abbrev pub faults_of : List Block → List (Place × SyntaxFault)

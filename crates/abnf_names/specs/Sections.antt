@@ -28,5 +28,5 @@ alternatives_known number None = opaque ∷ []
 alternatives_known number (Some rule) = alternatives number rule.body
 
 -- what a block says and a rule of the code, or none, have the same alternatives
-abbrev pub AreAlike : Result Rule SyntaxFault → Option Rule → Type 0
-AreAlike said rule = (number : Name → Option ℕ) → alternatives_known number rule ≡ alternatives_said number said
+abbrev pub HaveSameAlternatives : Result Rule SyntaxFault → Option Rule → Type 0
+HaveSameAlternatives said rule = (number : Name → Option ℕ) → alternatives_known number rule ≡ alternatives_said number said

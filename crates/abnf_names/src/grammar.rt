@@ -13,12 +13,12 @@ ghost use Rattle.abnf_names.specs.Said.{Block, AreSaid};
 ghost use Rattle.abnf_names.specs.Rules.{IsGrammar, defined};
 ghost use Rattle.abnf_names.specs.Excerpts.{HasSections};
 
-use crate::own::{faults_of, name_places};
 use crate::place::{PlacesOfName, Spot, found_at};
 use crate::range::range_of;
 use crate::rules::rules_said;
 use crate::section::Section;
 use crate::sections::sections_of;
+use crate::text_names::{faults_of, name_places};
 use abnf_parts::{Node, NodeNo, RuleNames, RuleNo};
 use abnf_syntax::SyntaxFault;
 use abnf_token::Folded;

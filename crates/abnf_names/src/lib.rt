@@ -9,7 +9,6 @@
 mod grammar;
 mod groups;
 mod laws;
-mod own;
 mod place;
 mod range;
 mod reach;
@@ -17,6 +16,7 @@ mod rules;
 mod section;
 mod sections;
 mod short_list;
+mod text_names;
 
 pub use abnf_parts::{Node, NodeNo, RuleNo};
 pub use grammar::Grammar;

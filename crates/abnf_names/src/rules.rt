@@ -14,10 +14,10 @@ ghost use Rattle.abnf_parts.specs.CoreTable as table;
 ghost use Rattle.abnf_parts.specs.Pushed.{AddsNodes, AddsTrees};
 
 use crate::groups::Group;
-use crate::own::{NamesOfText, own_groups, rule_names};
 use crate::reach::reaching;
 use crate::section::{Listed, Section};
 use crate::sections::rule_of;
+use crate::text_names::{NamesOfText, own_groups, rule_names};
 use abnf_parts::{Core, Node, NodeNo, RuleNames, fill, push_concatenations, push_needed};
 use abnf_syntax::{MAX_NESTING, Rule, Spare};
 use ls_lists::List;
@@ -115,7 +115,7 @@ fn push_counted<'s, 't>(
     nodes: &mut Vec<Node<'t>>,
     numbers: &mut List<NodeNo>,
 ) -> Result<(), AllocError>
-    ensures alternatives { OnOk result ((definitions : List spec.Definition) → spec.AreTold sections.now definitions
+    ensures alternatives { OnOk result ((definitions : List spec.HeadSaid) → spec.AreTold sections.now definitions
         → AddsTrees (flat_map (spec.alternatives_of (rule_number (all_names numbering.now.names.now))) (spec.counted_among definitions)) nodes.old.items nodes.new.items numbers.old numbers.new) }
     ensures kept { OnOk result (length nodes.old.items ≤ length nodes.new.items) }
 {
@@ -144,7 +144,7 @@ fn push_rule<'s, 't>(
     sections: &Group<Listed<'s, 't>>,
     nodes: &mut Vec<Node<'t>>,
 ) -> Result<(), AllocError>
-    ensures { OnOk result ((definitions : List spec.Definition) → spec.AreTold sections.now definitions
+    ensures { OnOk result ((definitions : List spec.HeadSaid) → spec.AreTold sections.now definitions
         → AddsNodes (subparts (spec.tree_of (rule_number (all_names numbering.now.names.now)) definitions)) nodes.old.items nodes.new.items) }
 {
     let at = nodes.len();
@@ -163,7 +163,7 @@ fn push_own<'s, 't>(
     nodes: &mut Vec<Node<'t>>,
     roots: &mut List<NodeNo>,
 ) -> Result<(), AllocError>
-    ensures { OnOk result ((definitions : List (List spec.Definition)) → spec.AllTold own.now definitions
+    ensures { OnOk result ((definitions : List (List spec.HeadSaid)) → spec.AllTold own.now definitions
         → AddsTrees (map (spec.tree_of (rule_number (all_names numbering.now.names.now))) definitions) nodes.old.items nodes.new.items roots.old roots.new) }
 {
     for sections in own {
@@ -241,7 +241,7 @@ pub(crate) fn rules_said<'t>(
     places: &NamesOfText<'t>,
 ) -> Result<Rules<'t>, AllocError>
     requires { spec.HasBlocks sections.now places.now }
-    ensures { IfOk result (λ r. (blocks : List said.Block) → spec.AreRead sections.now places.now blocks → spec.AreRules blocks r) }
+    ensures { IfOk result (λ r. (blocks : List said.Block) → spec.AreRead sections.now places.now blocks → spec.AreRulesOf blocks r) }
 {
     let groups = own_groups(alloc, sections)?;
     let (own, members) = groups.into_parts();

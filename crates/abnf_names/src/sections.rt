@@ -3,7 +3,7 @@
 ghost use Rattle.std.specs.Prelude.{◌≡◌, ◌<◌, length, Option, Result, IfOk};
 ghost use Rattle.abnf_syntax.specs.declared.fault.SyntaxFault.{SyntaxFault};
 ghost use Rattle.abnf_syntax.specs.declared.tree.Rule.{Rule};
-ghost use Rattle.abnf_names.specs.Sections.{AreAlike, AreSections, IsSaidBy};
+ghost use Rattle.abnf_names.specs.Sections.{HaveSameAlternatives, AreSections, IsSaidBy};
 ghost use Rattle.abnf_names.specs.Shown.{HasFault};
 
 use crate::section::Section;
@@ -69,7 +69,7 @@ pub fn rule_of<'t>(
     section: &Section<'t>,
 ) -> Result<Option<Rule<'t>>, AllocError>
     ensures { IfOk result (λ rule. (said : Result Rule SyntaxFault) → IsSaidBy section.now said
-        → AreAlike said rule) }
+        → HaveSameAlternatives said rule) }
 {
     if section.fault.is_some() {
         return Ok(None);

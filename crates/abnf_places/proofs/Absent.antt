@@ -15,14 +15,14 @@ use Rattle.abnf_syntax.specs.Faults.{place_of}
 use Rattle.abnf_syntax.specs.Grammar.{kind_of}
 use Rattle.abnf_syntax.specs.Heads.{head_of}
 use Rattle.abnf_syntax.specs.Items.{AreItems, AreTokens, items_behind, items_of, view, with_line_end}
-use Rattle.abnf_syntax.specs.Kinds.{is_item, is_name}
+use Rattle.abnf_syntax.specs.Kinds.{is_item, is_name_kind}
 use Rattle.abnf_syntax.proofs.ContentLaws.{content_item}
 use Rattle.abnf_parts.specs.Names.{Name}
 use Rattle.abnf_names.specs.Places.{Named, is_touched, named, places_in, places_of_name, uses_after}
 use Rattle.abnf_places.specs.declared.wanted.Wanted.{Wanted}
 use Rattle.abnf_places.specs.declared.wanted.Wanted.TheVariants.{Definitions}
 use Rattle.abnf_places.specs.Wanted.{is_wanted, wanted_places}
-use Rattle.abnf_places.specs.own.Stated.{IsNotFirst, IsNowhere, is_called, is_first}
+use Rattle.abnf_places.specs.own.Stated.{IsNotFirst, IsNowhere, is_token_called, begins_with_name}
 
 module _ (name : Name) where
   -- ---- tokens and items that aren't the name
@@ -30,20 +30,20 @@ module _ (name : Name) where
   abbrev Others : List (Option Token) → Type 0
   Others [] = Unit {0}
   Others (None ∷ ts) = Others ts
-  Others (Some t ∷ ts) = (is_called name t ≡ false) × Others ts
+  Others (Some t ∷ ts) = (is_token_called name t ≡ false) × Others ts
 
   abbrev OtherPairs : List (Token × Bool) → Type 0
   OtherPairs [] = Unit {0}
-  OtherPairs (p ∷ ps) = (is_called name p.0 ≡ false) × OtherPairs ps
+  OtherPairs (p ∷ ps) = (is_token_called name p.0 ≡ false) × OtherPairs ps
 
   others_append : (ts us : List (Option Token)) → Others ts → Others us → Others (ts ++ us)
   others_append [] us h k = k
   others_append (None ∷ ts) us h k = others_append ts us h k
   others_append (Some t ∷ ts) us h k = (h.0, others_append ts us h.1 k)
 
-  line_others : (ts : List Token) → list_any (is_called name) ts ≡ false → Others (with_line_end ts)
+  line_others : (ts : List Token) → list_any (is_token_called name) ts ≡ false → Others (with_line_end ts)
   line_others [] h = tt
-  line_others (t ∷ ts) h = let both = or_parts (is_called name t) (list_any (is_called name) ts) h in (both.0, line_others ts both.1)
+  line_others (t ∷ ts) h = let both = or_parts (is_token_called name t) (list_any (is_token_called name) ts) h in (both.0, line_others ts both.1)
 
   lines_others : (ls : List Text) (at end : ℕ) (tss : List (List Token)) → at + length tss ≡ end → AreTokens ls at tss → IsNowhere ls name at end → Others (flat_map with_line_end tss)
   lines_others ls at end [] all are none = tt
@@ -51,7 +51,7 @@ module _ (name : Name) where
       others_append (with_line_end ts) (flat_map with_line_end tss) (line_others ts (none at (omega arith) (omega (arith, all)) ts are.0))
       (lines_others ls (suc at) end tss (omega (arith, all)) are.1 (λ k from to. none k (omega arith) to))
 
-  pairs_by : (b : Bool) (t : Token) (apart : Bool) (if_item if_none : List (Token × Bool)) → is_called name t ≡ false → OtherPairs if_item → OtherPairs if_none → OtherPairs (if b then (t, apart) ∷ if_item else if_none)
+  pairs_by : (b : Bool) (t : Token) (apart : Bool) (if_item if_none : List (Token × Bool)) → is_token_called name t ≡ false → OtherPairs if_item → OtherPairs if_none → OtherPairs (if b then (t, apart) ∷ if_item else if_none)
   pairs_by true t apart if_item if_none e h k = (e, h)
   pairs_by false t apart if_item if_none e h k = k
 
@@ -71,10 +71,10 @@ module _ (name : Name) where
   if_other true n rest h = rw h refl
   if_other false n rest h = refl
 
-  named_other : (defines : Bool) (item : Item) (rest : List Named) → is_called name item.token ≡ false → places_of_name name (named defines item ++ rest) ≡ places_of_name name rest
-  named_other defines item rest h = if_other (is_name (kind_of item)) (record { text = item.token.text.now; place = place_of item.token; defines = defines }) rest h
+  named_other : (defines : Bool) (item : Item) (rest : List Named) → is_token_called name item.token ≡ false → places_of_name name (named defines item ++ rest) ≡ places_of_name name rest
+  named_other defines item rest h = if_other (is_name_kind (kind_of item)) (record { text = item.token.text.now; place = place_of item.token; defines = defines }) rest h
 
-  unless_other : (b : Bool) (item : Item) (rest : List Named) → is_called name item.token ≡ false → places_of_name name ((if b then [] else named false item) ++ rest) ≡ places_of_name name rest
+  unless_other : (b : Bool) (item : Item) (rest : List Named) → is_token_called name item.token ≡ false → places_of_name name ((if b then [] else named false item) ++ rest) ≡ places_of_name name rest
   unless_other true item rest h = refl
   unless_other false item rest h = named_other false item rest h
 
@@ -109,12 +109,12 @@ module _ (name : Name) where
   uses_define_none : (before : Kind) (items : List Item) → defining (uses_after before items) ≡ []
   uses_define_none before [] = refl
   uses_define_none before (item ∷ items) =
-      use_by (is_touched before item) (is_name (kind_of item)) (record { text = item.token.text.now; place = place_of item.token; defines = false }) (uses_after (kind_of item) items) refl
+      use_by (is_touched before item) (is_name_kind (kind_of item)) (record { text = item.token.text.now; place = place_of item.token; defines = false }) (uses_after (kind_of item) items) refl
       ∙ uses_define_none (kind_of item) items
 
   abbrev OtherFirst : List (Token × Bool) → Type 0
   OtherFirst [] = Unit {0}
-  OtherFirst (p ∷ ps) = is_called name p.0 ≡ false
+  OtherFirst (p ∷ ps) = is_token_called name p.0 ≡ false
 
   none_defined : (items : List Item) → OtherFirst (map view items) → defining (places_in items) ≡ []
   none_defined [] h = refl
@@ -123,16 +123,16 @@ module _ (name : Name) where
 
   -- ---- the first item of a block is that of its first line
 
-  first_by : (b : Bool) (t : Token) (called : Bool) (in_line behind rest more : List (Token × Bool)) → called ≡ is_called name t → (first : Bool) → (if b then called else first) ≡ false
+  first_by : (b : Bool) (t : Token) (called : Bool) (in_line behind rest more : List (Token × Bool)) → called ≡ is_token_called name t → (first : Bool) → (if b then called else first) ≡ false
       → 0 < length (if b then (t, false) ∷ in_line else rest) → (first ≡ false → 0 < length rest → OtherFirst more) → OtherFirst (if b then (t, false) ∷ behind else more)
   first_by true t called in_line behind rest more is first h some other = sym is ∙ h
   first_by false t called in_line behind rest more is first h some other = other h some
 
-  first_other : (ts : List Token) (more : List (Option Token)) → is_first name ts ≡ false → 0 < length (items_of (with_line_end ts ++ [])) → OtherFirst (items_of (with_line_end ts ++ more))
+  first_other : (ts : List Token) (more : List (Option Token)) → begins_with_name name ts ≡ false → 0 < length (items_of (with_line_end ts ++ [])) → OtherFirst (items_of (with_line_end ts ++ more))
   first_other [] more h some = absurd (omega (arith, some))
   first_other (t ∷ ts) more h some =
-      first_by (is_item t.kind) t (is_called name t) (items_behind false (with_line_end ts ++ [])) (items_behind false (with_line_end ts ++ more)) (items_of (with_line_end ts ++ [])) (items_of (with_line_end ts ++ more)) refl
-      (is_first name ts) h some (λ other here. first_other ts more other here)
+      first_by (is_item t.kind) t (is_token_called name t) (items_behind false (with_line_end ts ++ [])) (items_behind false (with_line_end ts ++ more)) (items_of (with_line_end ts ++ [])) (items_of (with_line_end ts ++ more)) refl
+      (begins_with_name name ts) h some (λ other here. first_other ts more other here)
 
   block_other : (ls : List Text) (first : ℕ) (tss : List (List Token)) → 0 < length tss → AreTokens ls first tss → is_content (slice_index_or ls first []) ≡ true → IsNotFirst ls name first → OtherFirst (items_of (flat_map with_line_end tss))
   block_other ls first [] some are content other = absurd (omega (arith, some))

@@ -13,7 +13,7 @@ use Rattle.abnf_token.specs.Folded.{lowercase}
 use Rattle.abnf_token.specs.Renamed.{touches, is_called}
 use Rattle.abnf_syntax.specs.declared.item.Item.{Item}
 use Rattle.abnf_syntax.specs.declared.block.Head.{Head}
-use Rattle.abnf_syntax.specs.Kinds.{is_name, is_defined_as}
+use Rattle.abnf_syntax.specs.Kinds.{is_name_kind, is_defined_as}
 use Rattle.abnf_syntax.specs.Grammar.{kind_of}
 use Rattle.abnf_syntax.specs.Heads.{head_of}
 use Rattle.abnf_syntax.specs.Faults.{place_of}
@@ -73,7 +73,7 @@ module _ (old : Name) (new : Text) where
   fresh_names [] a = tt
   fresh_names (n ∷ ns) a = (a.0, fresh_names ns a.1)
 
-  named_fresh : (d : Bool) (x : Item) → is_name (kind_of x) ≡ true → AllByRecursion IsFreshPlace (named d x) → Used old new x.token.text.now
+  named_fresh : (d : Bool) (x : Item) → is_name_kind (kind_of x) ≡ true → AllByRecursion IsFreshPlace (named d x) → Used old new x.token.text.now
   named_fresh d x e a =
       let n : Named = record { text = x.token.text.now; place = place_of x.token; defines = d } in
       let b : AllByRecursion IsFreshPlace (n ∷ []) = subst (λ b. AllByRecursion IsFreshPlace (if b then n ∷ [] else [])) e a in
@@ -81,7 +81,7 @@ module _ (old : Name) (new : Text) where
 
   use_fresh : (before : Kind) (x : Item) → kind_of x ≡ k.Name → touches before && not x.apart ≡ false → AllByRecursion IsFreshPlace (use_after before x) → Used old new x.token.text.now
   use_fresh before x e t a =
-      named_fresh false x (ap is_name e) (subst (λ b. AllByRecursion IsFreshPlace (if b then [] else named false x)) (touched_is before x ∙ t) a)
+      named_fresh false x (ap is_name_kind e) (subst (λ b. AllByRecursion IsFreshPlace (if b then [] else named false x)) (touched_is before x ∙ t) a)
 
   used_after : (before : Kind) (xs : List Item) → AllByRecursion IsFreshPlace (uses_after before xs) → AreUsed old new (Used old new) (touches before) xs
   used_after before [] a = tt
@@ -94,7 +94,7 @@ module _ (old : Name) (new : Text) where
   used_in [] a = tt
   used_in (x ∷ xs) a =
       let d = is_some (head_of (x ∷ xs)) in (
-        λ e t. named_fresh d x (ap is_name e) (all_front IsFreshPlace (named d x) (uses_after (kind_of x) xs) a),
+        λ e t. named_fresh d x (ap is_name_kind e) (all_front IsFreshPlace (named d x) (uses_after (kind_of x) xs) a),
         used_after (kind_of x) xs (all_back IsFreshPlace (named d x) (uses_after (kind_of x) xs) a),
       )
 
@@ -107,8 +107,8 @@ module _ (old : Name) (new : Text) where
   head_fresh (x ∷ []) a = tt
   head_fresh (x ∷ y ∷ xs) a =
       let d = is_some (head_of (x ∷ y ∷ xs)) in
-      head_if (is_name (kind_of x) && is_defined_as (kind_of y)) _ _
-      (λ e. named_fresh d x (and_parts (is_name (kind_of x)) (is_defined_as (kind_of y)) e).0 (all_front IsFreshPlace (named d x) (uses_after (kind_of x) (y ∷ xs)) a))
+      head_if (is_name_kind (kind_of x) && is_defined_as (kind_of y)) _ _
+      (λ e. named_fresh d x (and_parts (is_name_kind (kind_of x)) (is_defined_as (kind_of y)) e).0 (all_front IsFreshPlace (named d x) (uses_after (kind_of x) (y ∷ xs)) a))
 
   pub heads_fresh : (bs : List Block) → AllByRecursion IsFreshPlace (places_of bs) → AreFreshHeads old new bs
   heads_fresh [] a = tt
@@ -137,7 +137,7 @@ module _ (old : Name) where
   no_uses before [] = refl
   no_uses before (x ∷ xs) =
       any_append defines_old (use_after before x) (uses_after (kind_of x) xs)
-      ∙ (λ i. no_use (is_touched before x) (is_name (kind_of x)) (record { text = x.token.text.now; place = place_of x.token; defines = false }) refl i || no_uses (kind_of x) xs i)
+      ∙ (λ i. no_use (is_touched before x) (is_name_kind (kind_of x)) (record { text = x.token.text.now; place = place_of x.token; defines = false }) refl i || no_uses (kind_of x) xs i)
 
   named_old : (b : Bool) (n : Named) → list_any defines_old (if b then n ∷ [] else []) ≡ true → (n.defines ≡ true) × (is_called old n.text ≡ true)
   named_old true n e = elim (or_cases (defines_old n) false e) [ inl h ↦ and_parts n.defines (is_called old n.text) h | inr h ↦ never false h refl ]
@@ -152,7 +152,7 @@ module _ (old : Name) where
       let d = is_some (head_of (x ∷ xs)) in
       let both : (list_any defines_old (named d x) || list_any defines_old (uses_after (kind_of x) xs)) ≡ true = sym (any_append defines_old (named d x) (uses_after (kind_of x) xs)) ∙ e in
       elim (or_cases (list_any defines_old (named d x)) (list_any defines_old (uses_after (kind_of x) xs)) both) [
-        | inl h ↦ named_old (is_name (kind_of x)) (record { text = x.token.text.now; place = place_of x.token; defines = d }) h
+        | inl h ↦ named_old (is_name_kind (kind_of x)) (record { text = x.token.text.now; place = place_of x.token; defines = d }) h
         | inr h ↦ never (list_any defines_old (uses_after (kind_of x) xs)) h (no_uses (kind_of x) xs)
       ]
 
@@ -161,7 +161,7 @@ module _ (old : Name) where
   block_old (x ∷ []) e = never false (first_place x [] e).0 refl
   block_old (x ∷ y ∷ xs) e =
       let f = first_place x (y ∷ xs) e in
-      (lowercase x.token.text.now, head_old (is_name (kind_of x) && is_defined_as (kind_of y)) _ f.0, f.1)
+      (lowercase x.token.text.now, head_old (is_name_kind (kind_of x) && is_defined_as (kind_of y)) _ f.0, f.1)
 
   cons_first : (o : Option Name) (n : Name) (ns : List Name) → o ≡ Some n → bytes_eq old n ≡ true → list_any (bytes_eq old) (cons_option o ns) ≡ true
   cons_first o n ns e h = subst (λ o. list_any (bytes_eq old) (cons_option o ns) ≡ true) (sym e) (or_true (bytes_eq old n) (list_any (bytes_eq old) ns) (inl h))

@@ -16,7 +16,7 @@ use Rattle.abnf_token.specs.Folded.{lowercase}
 use Rattle.abnf_token.specs.Tokens.{TokensOf}
 use Rattle.abnf_token.specs.Renamed.{Piece, piece, touches, is_at_place}
 use Rattle.abnf_syntax.specs.declared.item.Item.{Item}
-use Rattle.abnf_syntax.specs.Kinds.{is_item, is_name}
+use Rattle.abnf_syntax.specs.Kinds.{is_item, is_name_kind}
 use Rattle.abnf_syntax.specs.Grammar.{kind_of}
 use Rattle.abnf_syntax.specs.Faults.{place_of}
 use Rattle.abnf_syntax.specs.Heads.{head_of}
@@ -63,7 +63,7 @@ module _ (old : Text) where
   kept_one false n = refl
 
   one_kind : (kind : Kind) (text : Text) (place : Place) (touched d : Bool) →
-      map the_place (filter called (if touched then [] else (if is_name kind then record { text = text; place = place; defines = d } ∷ [] else []))) ≡ at touched kind text place
+      map the_place (filter called (if touched then [] else (if is_name_kind kind then record { text = text; place = place; defines = d } ∷ [] else []))) ≡ at touched kind text place
   one_kind k.Name text place true d = refl
   one_kind k.Name text place false d = kept_one (bytes_eq old (lowercase text)) (record { text = text; place = place; defines = d })
   one_kind kind text place true d = refl

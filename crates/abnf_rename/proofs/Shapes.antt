@@ -11,7 +11,7 @@ use Rattle.abnf_token.specs.Folded.{lowercase}
 use Rattle.abnf_token.specs.Renamed.{touches, is_called, renamed_text}
 use Rattle.abnf_syntax.specs.declared.block.Head.{Head}
 use Rattle.abnf_syntax.specs.declared.item.Item.{Item}
-use Rattle.abnf_syntax.specs.Kinds.{is_name, is_bad, is_defined_as, is_adds}
+use Rattle.abnf_syntax.specs.Kinds.{is_name_kind, is_bad, is_defined_as, is_adds}
 use Rattle.abnf_syntax.specs.Grammar.{kind_of}
 use Rattle.abnf_syntax.specs.Heads.{head_of}
 use Rattle.abnf_parts.specs.Names.{Name}
@@ -24,7 +24,7 @@ use Rattle.abnf_rename.specs.Rules.{text_after, name_after, text_and_role}
 -- ---- heads
 
 abbrev pub shape_head : List Shape → Option (Name × Bool)
-shape_head (x ∷ y ∷ xs) = if is_name x.0 && is_defined_as y.0 then Some (lowercase x.1, is_adds y.0) else None
+shape_head (x ∷ y ∷ xs) = if is_name_kind x.0 && is_defined_as y.0 then Some (lowercase x.1, is_adds y.0) else None
 shape_head _ = None
 
 abbrev head_pair : Head → Name × Bool
@@ -37,7 +37,7 @@ head_if false h = refl
 head_shape : (xs : List Item) → option_map head_pair (head_of xs) ≡ shape_head (map shape xs)
 head_shape [] = refl
 head_shape (x ∷ []) = refl
-head_shape (x ∷ y ∷ xs) = head_if (is_name (kind_of x) && is_defined_as (kind_of y)) _
+head_shape (x ∷ y ∷ xs) = head_if (is_name_kind (kind_of x) && is_defined_as (kind_of y)) _
 
 name_pair : (o : Option Head) → option_map name_of o ≡ option_map (λ (p : Name × Bool). p.0) (option_map head_pair o)
 name_pair None = refl
@@ -70,7 +70,7 @@ abbrev pub Told : Type 0
 Told = Text × Bool
 
 abbrev pub shape_named : Bool → Shape → List Told
-shape_named defines x = if is_name x.0 then (x.1, defines) ∷ [] else []
+shape_named defines x = if is_name_kind x.0 then (x.1, defines) ∷ [] else []
 
 abbrev pub shape_use : Bool → Shape → List Told
 shape_use touched x = if touched && not x.2 then [] else shape_named false x
@@ -102,7 +102,7 @@ named_if true d n e = ap (λ d. (n.text, d) ∷ []) e
 named_if false d n e = refl
 
 named_by_shape : (d : Bool) (x : Item) → map text_and_role (named d x) ≡ shape_named d (shape x)
-named_by_shape d x = named_if (is_name (kind_of x)) d _ refl
+named_by_shape d x = named_if (is_name_kind (kind_of x)) d _ refl
 
 use_if : (b : Bool) (xs : List Named) → map text_and_role (if b then [] else xs) ≡ (if b then [] else map text_and_role xs)
 use_if true xs = refl
@@ -144,8 +144,8 @@ module _ (old new : Text) where
   head_after_if false t d = refl
 
   head_kind : (kind : Kind) (t : Text) (y : Kind) →
-      (if is_name kind && is_defined_as y then Some (lowercase (renamed_text old new false kind t), is_adds y) else None)
-      ≡ option_map pair_after (if is_name kind && is_defined_as y then Some (lowercase t, is_adds y) else None)
+      (if is_name_kind kind && is_defined_as y then Some (lowercase (renamed_text old new false kind t), is_adds y) else None)
+      ≡ option_map pair_after (if is_name_kind kind && is_defined_as y then Some (lowercase t, is_adds y) else None)
   head_kind k.Name t y = head_after_if (is_defined_as y) t (is_adds y)
   head_kind kind t y = refl
 
@@ -155,8 +155,8 @@ module _ (old new : Text) where
   head_after (x ∷ y ∷ xs) = head_kind x.0 x.1 y.0
 
   use_kind : (kind : Kind) (t : Text) (b d : Bool) →
-      (if b then [] else (if is_name kind then (renamed_text old new b kind t, d) ∷ [] else []))
-      ≡ map place_after (if b then [] else (if is_name kind then (t, d) ∷ [] else []))
+      (if b then [] else (if is_name_kind kind then (renamed_text old new b kind t, d) ∷ [] else []))
+      ≡ map place_after (if b then [] else (if is_name_kind kind then (t, d) ∷ [] else []))
   use_kind k.Name t true d = refl
   use_kind k.Name t false d = refl
   use_kind kind t true d = refl

@@ -16,7 +16,7 @@ use Rattle.abnf_syntax.specs.declared.block.Head.{Head}
 use Rattle.abnf_syntax.specs.declared.item.Item.{Item}
 use Rattle.abnf_syntax.specs.declared.fault.SyntaxFault.{SyntaxFault}
 use Rattle.abnf_syntax.specs.declared.tree.Rule.{Rule}
-use Rattle.abnf_syntax.specs.Kinds.{is_item, is_name, is_defined_as, opens, closes}
+use Rattle.abnf_syntax.specs.Kinds.{is_item, is_name_kind, is_defined_as, opens, closes}
 use Rattle.abnf_syntax.specs.Blocks.{begins_at, NoneBegins, IsBlock, AreBlocks}
 use Rattle.abnf_syntax.specs.Items as items
 use Rattle.abnf_syntax.specs.Items.{with_line_end, items_behind, items_of, AreTokens, AreItems}
@@ -166,7 +166,7 @@ head_by false head = refl
 pub head_bare : (xs : List Item) → head_of (map bare xs) ≡ option_map bare_head (head_of xs)
 head_bare [] = refl
 head_bare (x ∷ []) = refl
-head_bare (x ∷ y ∷ xs) = head_by (is_name (kind_of x) && is_defined_as (kind_of y)) _
+head_bare (x ∷ y ∷ xs) = head_by (is_name_kind (kind_of x) && is_defined_as (kind_of y)) _
 
 -- ---- faults
 

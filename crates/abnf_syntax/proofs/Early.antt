@@ -3,7 +3,7 @@ use Rattle.std.proofs.Common.{◌≡◌, ℕ, ◌+◌, ◌-◌, ◌<◌, ◌≤�
 use Rattle.std.proofs.lemmas.List.{take_all}
 use Rattle.abnf_syntax.specs.declared.item.Item.{Item}
 use Rattle.abnf_syntax.specs.declared.fault.SyntaxFault.{SyntaxFault}
-use Rattle.abnf_syntax.specs.Kinds.{is_name, is_defined_as}
+use Rattle.abnf_syntax.specs.Kinds.{is_name_kind, is_defined_as}
 use Rattle.abnf_syntax.specs.Grammar.{kind_of}
 use Rattle.abnf_syntax.specs.Faults.{shown, Faults}
 use Rattle.abnf_syntax.specs.Machine.{start, fault_at, early, early_behind}
@@ -20,13 +20,13 @@ by_front : (front rest : List Item) (fault : SyntaxFault) → shown front rest �
     → length front < 3 → early (front ++ rest) ≡ Some fault
 unfolding fault_at
 by_front [] [] fault s first few = absurd (cc)
-by_front [] (item ∷ rest) fault s first few = shows_here (is_name (kind_of item)) (early_behind item rest) _ fault s
-by_front (head ∷ []) [] fault s first few = shows_later (is_name (kind_of head)) (early_behind head []) _ (first [] (head ∷ []) refl (omega arith)) ∙ s
+by_front [] (item ∷ rest) fault s first few = shows_here (is_name_kind (kind_of item)) (early_behind item rest) _ fault s
+by_front (head ∷ []) [] fault s first few = shows_later (is_name_kind (kind_of head)) (early_behind head []) _ (first [] (head ∷ []) refl (omega arith)) ∙ s
 by_front (head ∷ []) (item ∷ rest) fault s first few =
-    shows_later (is_name (kind_of head)) (early_behind head (item ∷ rest)) _ (first [] (head ∷ item ∷ rest) refl (omega arith))
+    shows_later (is_name_kind (kind_of head)) (early_behind head (item ∷ rest)) _ (first [] (head ∷ item ∷ rest) refl (omega arith))
     ∙ shows_here (is_defined_as (kind_of item)) (fault_at (start item) rest) _ fault s
 by_front (head ∷ defined ∷ []) rest fault s first few =
-    shows_later (is_name (kind_of head)) (early_behind head (defined ∷ rest)) _ (first [] (head ∷ defined ∷ rest) refl (omega arith))
+    shows_later (is_name_kind (kind_of head)) (early_behind head (defined ∷ rest)) _ (first [] (head ∷ defined ∷ rest) refl (omega arith))
     ∙ (shows_later (is_defined_as (kind_of defined)) (fault_at (start defined) rest) _ (first (head ∷ []) (defined ∷ rest) refl (omega arith)) ∙ s)
 by_front (a ∷ b ∷ c ∷ front) rest fault s first few = absurd (omega arith)
 

@@ -11,14 +11,14 @@ use Rattle.abnf_token.specs.Marks.{AreMarks, mark_of}
 use Rattle.abnf_token.specs.Tokens.{AreSlices, TokensOf, view}
 use Rattle.abnf_token.proofs.Laws.{one_answer, slices}
 use Rattle.abnf_syntax.specs.declared.block.Head.{Head}
-use Rattle.abnf_syntax.specs.declared.ends.Front.{Front}
-use Rattle.abnf_syntax.specs.declared.ends.Front.TheVariants.{Nothing, One, Two}
+use Rattle.abnf_syntax.specs.declared.ends.FirstItems.{FirstItems}
+use Rattle.abnf_syntax.specs.declared.ends.FirstItems.TheVariants.{Nothing, One, Two}
 use Rattle.abnf_syntax.specs.declared.ends.Headed.{Headed}
 use Rattle.abnf_syntax.specs.declared.item.Item.{Item}
 use Rattle.abnf_syntax.specs.Faults.{last_of}
 use Rattle.abnf_syntax.specs.Grammar.{kind_of}
 use Rattle.abnf_syntax.specs.Heads.{headed_items, headed_view}
-use Rattle.abnf_syntax.specs.Kinds.{is_item, is_name, is_defined_as, is_adds}
+use Rattle.abnf_syntax.specs.Kinds.{is_item, is_name_kind, is_defined_as, is_adds}
 use Rattle.abnf_syntax.specs.Items as spec
 use Rattle.abnf_syntax.specs.Items.{with_line_end, items_behind, items_of, AreTokens, AreItems}
 use Rattle.abnf_syntax.specs.own.Ends.{View, view_at, items_at, items_among, AreSeen, front_views, is_full, head_view, head_seen}
@@ -185,7 +185,7 @@ two_more (x ∷ []) ys = refl
 two_more (x ∷ y ∷ xs) ys = refl
 
 -- no item counts behind two
-pub full : (front : Front) (xs ys : List View) → is_full front ≡ true → front_views front ≡ take 2 xs → front_views front ≡ take 2 (xs ++ ys)
+pub full : (front : FirstItems) (xs ys : List View) → is_full front ≡ true → front_views front ≡ take 2 xs → front_views front ≡ take 2 (xs ++ ys)
 full Nothing xs ys is e = absurd (cc)
 full (One a) xs ys is e = absurd (cc)
 full (Two a b) [] ys is e = absurd (cc)
@@ -213,7 +213,7 @@ pub headed_said : (items : List Item) → headed_seen (head_seen (take 2 (said i
 headed_said [] = refl
 headed_said (first ∷ []) = refl
 headed_said (first ∷ second ∷ items) =
-    ap (headed_seen (head_seen (view first.token ∷ view second.token ∷ []))) (last_said second items) ∙ by (is_name (kind_of first) && is_defined_as (kind_of second))
+    ap (headed_seen (head_seen (view first.token ∷ view second.token ∷ []))) (last_said second items) ∙ by (is_name_kind (kind_of first) && is_defined_as (kind_of second))
   where
     by : (b : Bool) → headed_seen (if b then Some (view first.token, is_adds (kind_of second)) else None) (Some (view (last_of second items).token))
         ≡ option_map headed_view (option_map (λ (head : Head). record { head = head; last = (last_of second items).token }) (if b then Some (record { name = first.token; adds = is_adds (kind_of second) }) else None))
@@ -252,14 +252,14 @@ module _ (at : ℕ) (line : Text) (marks : List TokenMark) (n : ℕ) (d : TokenM
 
 module _ (ls : List Text) (first at end : ℕ) where
   -- the lines behind two items tell nothing
-  pub front_full : (front : Front) → first ≤ at → at ≤ end → is_full front ≡ true → ((seen : List View) → AreSeen ls first at seen → front_views front ≡ take 2 seen) →
+  pub front_full : (front : FirstItems) → first ≤ at → at ≤ end → is_full front ≡ true → ((seen : List View) → AreSeen ls first at seen → front_views front ≡ take 2 seen) →
       (seen : List View) → AreSeen ls first end seen → front_views front ≡ take 2 seen
   front_full front from to is so_far seen are =
       let s = split ls first at end seen from to are in
       full front s.front s.back is (so_far s.front s.front_are) ∙ ap (take 2) (sym s.both)
 
   -- one line more
-  pub front_more : (old new : Front) (line : Text) (marks : List TokenMark) → first ≤ at → line ≡ slice_index_or ls at [] → AreMarks (slice_index_or ls at []) marks →
+  pub front_more : (old new : FirstItems) (line : Text) (marks : List TokenMark) → first ≤ at → line ≡ slice_index_or ls at [] → AreMarks (slice_index_or ls at []) marks →
       front_views new ≡ take 2 (front_views old ++ items_at at line marks) → ((seen : List View) → AreSeen ls first at seen → front_views old ≡ take 2 seen) →
       (seen : List View) → AreSeen ls first (at + 1) seen → front_views new ≡ take 2 seen
   front_more old new line marks from line_is marks_of new_is so_far seen are =

@@ -6,7 +6,7 @@ use Rattle.std.proofs.lemmas.Option.{same_Some}
 use Rattle.abnf_syntax.specs.declared.item.Item.{Item}
 use Rattle.abnf_syntax.specs.declared.fault.SyntaxFault.{SyntaxFault}
 use Rattle.abnf_syntax.specs.declared.tree.Rule.{Rule}
-use Rattle.abnf_syntax.specs.Kinds.{is_name, is_defined_as}
+use Rattle.abnf_syntax.specs.Kinds.{is_name_kind, is_defined_as}
 use Rattle.abnf_syntax.specs.Grammar.{kind_of, Alternation, Derives}
 use Rattle.abnf_syntax.specs.Faults.{shown, Faults}
 use Rattle.abnf_syntax.specs.Machine.{State, start, shift, fault_at, run, parse}
@@ -38,7 +38,7 @@ parse_none (head ∷ defined ∷ body) rule h before after e =
     let c = chosen_ok _ _ _ _ h in
     let d = chosen_ok _ _ _ _ c.1 in
     let r = rule_ok head defined _ rule d.1 in
-    let named : is_name (kind_of head) ≡ true = c.0 in
+    let named : is_name_kind (kind_of head) ≡ true = c.0 in
     let is_defined : is_defined_as (kind_of defined) ≡ true = d.0 in
     head_earlier head defined body (suc (length before)) (rw named refl) (rw is_defined refl)
     (λ xs ys split less. none_shown head defined [] body (start defined) r.0 (record { last = refl; left = refl }) r.1 xs ys split) before after e (omega arith)

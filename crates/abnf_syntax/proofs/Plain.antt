@@ -5,7 +5,7 @@ use Rattle.abnf_token.specs.declared.token.Kind.{Kind}
 use Rattle.abnf_token.specs.declared.token.Kind.TheVariants as k
 use Rattle.abnf_token.specs.declared.token.Token.{Token}
 use Rattle.abnf_syntax.specs.declared.item.Item.{Item}
-use Rattle.abnf_syntax.specs.Kinds.{is_bad, is_defined_as, is_repeat, opens, closes, begins_repetition, needs_element, ends_element}
+use Rattle.abnf_syntax.specs.Kinds.{is_bad, is_defined_as, is_repeat_kind, opens, closes, begins_repetition, needs_element, ends_element}
 use Rattle.abnf_syntax.specs.Numbers.{numbers_fit}
 use Rattle.abnf_syntax.specs.Grammar.{kind_of, max_nesting}
 use Rattle.abnf_syntax.specs.declared.fault.SyntaxFault.{SyntaxFault}
@@ -36,12 +36,12 @@ record Plain (last kind : Kind) : Type 0 where
   needed : not (begins_repetition kind) && needs_element last ≡ false
   defined : is_defined_as kind ≡ false
   closed : closes kind ≡ false
-  counted : is_repeat kind ≡ false
+  counted : is_repeat_kind kind ≡ false
   blank : (b : Bool) → begins_repetition kind && (ends_element last && b) ≡ false
   number : (text : List ℕ) → numbers_fit kind text ≡ true
   deep : opens kind ≡ false
 
-element : (last kind : Kind) → is_bad kind ≡ false → begins_repetition kind ≡ true → is_defined_as kind ≡ false → closes kind ≡ false → is_repeat kind ≡ false → opens kind ≡ false
+element : (last kind : Kind) → is_bad kind ≡ false → begins_repetition kind ≡ true → is_defined_as kind ≡ false → closes kind ≡ false → is_repeat_kind kind ≡ false → opens kind ≡ false
     → ((text : List ℕ) → numbers_fit kind text ≡ true) → needs_element last ≡ true → Plain last kind
 element last kind bad begins defined closed counted deep number h = record {
   bad = bad;

@@ -6,7 +6,7 @@ use Rattle.abnf_token.specs.declared.token.Kind.TheVariants as k
 use Rattle.abnf_token.specs.declared.token.Token.{Token}
 use Rattle.abnf_syntax.specs.declared.item.Item.{Item}
 use Rattle.abnf_syntax.specs.declared.fault.SyntaxFault.{SyntaxFault}
-use Rattle.abnf_syntax.specs.Kinds.{is_bad, is_defined_as, is_repeat, opens, closes, closes_it, begins_repetition, needs_element, ends_element}
+use Rattle.abnf_syntax.specs.Kinds.{is_bad, is_defined_as, is_repeat_kind, opens, closes, closes_it, begins_repetition, needs_element, ends_element}
 use Rattle.abnf_syntax.specs.Grammar.{kind_of, fits, max_nesting}
 use Rattle.abnf_syntax.specs.Faults.{rows_of, least, is_followed, is_empty, is_other}
 
@@ -31,7 +31,7 @@ pub record Clear (last : Kind) (bs : List Token) (apart small : Bool) (rest : Li
   pub needed : not (begins_repetition kind) && needs_element last ≡ false
   pub defined : is_defined_as kind && ends_element last ≡ false
   pub closed : closes kind && is_empty bs ≡ false
-  pub followed : is_repeat kind && not (is_followed rest) ≡ false
+  pub followed : is_repeat_kind kind && not (is_followed rest) ≡ false
   pub blank : begins_repetition kind && (ends_element last && not apart) ≡ false
   pub other : closes kind && (is_other bs kind && ends_element last) ≡ false
   pub number : not small ≡ false

@@ -6,7 +6,7 @@ use Rattle.abnf_syntax.specs.declared.item.Item.{Item}
 use Rattle.abnf_syntax.specs.declared.fault.SyntaxFault.{SyntaxFault}
 use Rattle.abnf_syntax.specs.declared.fault.SyntaxFault.TheVariants as f
 use Rattle.abnf_syntax.specs.declared.tree.Rule.{Rule}
-use Rattle.abnf_syntax.specs.Kinds.{is_name, is_adds, is_defined_as, needs_element, ends_element}
+use Rattle.abnf_syntax.specs.Kinds.{is_name_kind, is_adds, is_defined_as, needs_element, ends_element}
 use Rattle.abnf_syntax.specs.Grammar.{kind_of, Alternation, Derives, IsAlternation, max_nesting, defined_as}
 use Rattle.abnf_syntax.specs.Faults.{Faults, shown, place_of, place_after}
 use Rattle.abnf_syntax.specs.Machine.{start, run, parse, parse_body, rule_with}
@@ -17,7 +17,7 @@ use Rattle.abnf_syntax.proofs.Sound.{Stands, sound}
 use Rattle.abnf_syntax.proofs.Complete.{complete}
 use Rattle.abnf_syntax.proofs.FaultSide.{faulty}
 
-name_is : (kind : Kind) → is_name kind ≡ true → kind ≡ k.Name
+name_is : (kind : Kind) → is_name_kind kind ≡ true → kind ≡ k.Name
 name_is k.Name h = refl
 name_is _ h = never h
 
@@ -95,23 +95,23 @@ parses : (head defined : Item) (body : List Item) (rule : Rule) → kind_of head
 parses head defined body rule n m d a =
     let is_defined : is_defined_as (kind_of defined) ≡ true = ap is_defined_as d ∙ defines rule.adds in
     let adds : is_adds (kind_of defined) ≡ rule.adds = ap is_adds d ∙ adds_back rule.adds in
-    let is_named : is_name (kind_of head) ≡ true = ap is_name n in
+    let is_named : is_name_kind (kind_of head) ≡ true = ap is_name_kind n in
     rw (is_named, is_defined) (rule_is head defined rule _ (sym m) adds (complete defined body rule.body (fresh _ is_defined) a))
 
 pub parse_complete : (items : List Item) (rule : Rule) → Derives items rule → parse items ≡ Ok rule
 parse_complete items rule d = ap parse d.split ∙ parses d.head d.defined d.body rule d.named d.name d.adds d.alternation
 
-no_first : (item : Item) (rest : List Item) → is_name (kind_of item) ≡ false → Faults (item ∷ rest) (f.NoName (place_of item.token))
+no_first : (item : Item) (rest : List Item) → is_name_kind (kind_of item) ≡ false → Faults (item ∷ rest) (f.NoName (place_of item.token))
 no_first item rest h = record { front = []; rest = item ∷ rest; split = refl; shows = rw h refl; first = λ before after e lt. absurd (omega arith) }
 
-no_second_by : (head : Item) (rest before after : List Item) → is_name (kind_of head) ≡ true → head ∷ rest ≡ before ++ after → length before < 1 → shown before after ≡ None
+no_second_by : (head : Item) (rest before after : List Item) → is_name_kind (kind_of head) ≡ true → head ∷ rest ≡ before ++ after → length before < 1 → shown before after ≡ None
 no_second_by head rest [] after h e lt = subst (λ l. shown [] l ≡ None) e (rw h refl)
 no_second_by head rest (x ∷ xs) after h e lt = absurd (omega arith)
 
-no_second : (head : Item) (rest : List Item) (fault : SyntaxFault) → is_name (kind_of head) ≡ true → shown (head ∷ []) rest ≡ Some fault → Faults (head ∷ rest) fault
+no_second : (head : Item) (rest : List Item) (fault : SyntaxFault) → is_name_kind (kind_of head) ≡ true → shown (head ∷ []) rest ≡ Some fault → Faults (head ∷ rest) fault
 no_second head rest fault h s = record { front = head ∷ []; rest = rest; split = refl; shows = s; first = λ before after e lt. no_second_by head rest before after h e lt }
 
-behind_head : (head defined : Item) (body : List Item) (fault : SyntaxFault) → is_name (kind_of head) ≡ true →
+behind_head : (head defined : Item) (body : List Item) (fault : SyntaxFault) → is_name_kind (kind_of head) ≡ true →
     ((is_defined_as (kind_of defined) ≡ true) × (rule_with head defined (run (start defined) body) ≡ Err fault)) ⊎ ((is_defined_as (kind_of defined) ≡ false) × (f.NoDefinedAs (place_of defined.token) ≡ fault)) → Faults (head ∷ defined ∷ body) fault
 behind_head head defined body fault e (inl q) = faulty head defined body (start defined) fault (rw e refl) (let d = q.0 in rw d refl) refl refl (rule_err head defined _ fault q.1)
 behind_head head defined body fault e (inr q) = no_second head (defined ∷ body) fault e (let d = q.0 in rw d (ap Some q.1))
@@ -119,12 +119,12 @@ behind_head head defined body fault e (inr q) = no_second head (defined ∷ body
 pub parse_faulty : (items : List Item) (fault : SyntaxFault) → 0 < length items → parse items ≡ Err fault → Faults items fault
 parse_faulty [] fault some h = absurd (omega arith)
 parse_faulty (head ∷ []) fault some h =
-    elim (chosen_err (is_name (kind_of head)) (Err (f.NoDefinedAs (place_after head.token))) (f.NoName (place_of head.token)) fault h) [
+    elim (chosen_err (is_name_kind (kind_of head)) (Err (f.NoDefinedAs (place_after head.token))) (f.NoName (place_of head.token)) fault h) [
       | inl p ↦ no_second head [] fault p.0 (err_some _ _ p.1)
       | inr p ↦ subst (Faults (head ∷ [])) p.1 (no_first head [] p.0)
     ]
 parse_faulty (head ∷ defined ∷ body) fault some h =
-    elim (chosen_err (is_name (kind_of head)) (parse_body head (defined ∷ body)) (f.NoName (place_of head.token)) fault h) [
+    elim (chosen_err (is_name_kind (kind_of head)) (parse_body head (defined ∷ body)) (f.NoName (place_of head.token)) fault h) [
       | inl p ↦ behind_head head defined body fault p.0 (chosen_err (is_defined_as (kind_of defined)) (rule_with head defined (run (start defined) body)) (f.NoDefinedAs (place_of defined.token)) fault p.1)
       | inr p ↦ subst (Faults (head ∷ defined ∷ body)) p.1 (no_first head (defined ∷ body) p.0)
     ]

@@ -7,7 +7,7 @@ use Rattle.abnf_syntax.specs.declared.item.Item.{Item}
 use Rattle.ls_text.specs.declared.position.Place.{Place}
 use Rattle.abnf_syntax.specs.declared.fault.SyntaxFault.{SyntaxFault}
 use Rattle.abnf_syntax.specs.declared.fault.SyntaxFault.TheVariants as f
-use Rattle.abnf_syntax.specs.Kinds.{is_name, is_defined_as, is_bad, is_repeat, opens, closes, closes_it, begins_element, begins_repetition, needs_element, ends_element}
+use Rattle.abnf_syntax.specs.Kinds.{is_name_kind, is_defined_as, is_bad, is_repeat_kind, opens, closes, closes_it, begins_element, begins_repetition, needs_element, ends_element}
 use Rattle.abnf_syntax.specs.Grammar.{kind_of, fits, max_nesting}
 
 -- the place of a token: its line, and the bytes of its text there
@@ -100,7 +100,7 @@ rows_of last brackets (item ∷ rest) =
     ∷ (not (begins_repetition kind) && needs_element (kind_of last), f.ElementExpected here)
     ∷ (is_defined_as kind && ends_element (kind_of last), f.ElementExpected here)
     ∷ (closes kind && is_empty brackets, f.ElementExpected here)
-    ∷ (is_repeat kind && not (is_followed rest), f.ElementExpected here)
+    ∷ (is_repeat_kind kind && not (is_followed rest), f.ElementExpected here)
     ∷ (begins_repetition kind && (ends_element (kind_of last) && not item.apart), f.BlankExpected here)
     ∷ (closes kind && (is_other brackets kind && ends_element (kind_of last)), f.Unclosed (place_of (innermost brackets item.token)))
     ∷ (not (fits item), f.NumberTooLarge here)
@@ -111,7 +111,7 @@ rows_of last brackets (item ∷ rest) =
 -- table; where these do not hold of them, no other does.
 abbrev pub shown : List Item → List Item → Option SyntaxFault
 shown [] [] = None
-shown [] (item ∷ rest) = if is_name (kind_of item) then None else Some (f.NoName (place_of item.token))
+shown [] (item ∷ rest) = if is_name_kind (kind_of item) then None else Some (f.NoName (place_of item.token))
 shown (head ∷ []) [] = Some (f.NoDefinedAs (place_after head.token))
 shown (head ∷ []) (item ∷ rest) = if is_defined_as (kind_of item) then None else Some (f.NoDefinedAs (place_of item.token))
 shown (head ∷ defined ∷ body) rest = least (rows_of (last_of defined body) (open_from [] body) rest)

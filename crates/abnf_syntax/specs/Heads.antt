@@ -8,12 +8,12 @@ use Rattle.abnf_syntax.specs.declared.ends.Headed.{Headed}
 use Rattle.abnf_syntax.specs.declared.item.Item.{Item}
 use Rattle.abnf_syntax.specs.Faults.{last_of}
 use Rattle.abnf_syntax.specs.Grammar.{kind_of}
-use Rattle.abnf_syntax.specs.Kinds.{is_name, is_defined_as, is_adds}
+use Rattle.abnf_syntax.specs.Kinds.{is_name_kind, is_defined_as, is_adds}
 
 -- the first item, where that is a name and `=` or `=/` follows, and which of the two; the block may be faulty behind it
 abbrev pub head_of : List Item → Option Head
 head_of (first ∷ second ∷ items) =
-    if is_name (kind_of first) && is_defined_as (kind_of second) then Some (record { name = first.token; adds = is_adds (kind_of second) }) else None
+    if is_name_kind (kind_of first) && is_defined_as (kind_of second) then Some (record { name = first.token; adds = is_adds (kind_of second) }) else None
 head_of _ = None
 
 -- the head of a block's items and the last item, where they have a head

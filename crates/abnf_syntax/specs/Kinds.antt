@@ -4,9 +4,9 @@ use Rattle.abnf_token.specs.declared.token.Kind.{Kind}
 use Rattle.abnf_token.specs.declared.token.Kind.TheVariants.{Name, Defines, Adds, Slash, Repeat, ParenL, ParenR, BracketL, BracketR, Quoted, Number, Prose, Comment, Blank, Bad}
 
 -- a name (rulename)
-abbrev pub is_name : Kind → Bool
-is_name Name = true
-is_name _ = false
+abbrev pub is_name_kind : Kind → Bool
+is_name_kind Name = true
+is_name_kind _ = false
 
 -- `=` or `=/` (defined-as)
 abbrev pub is_defined_as : Kind → Bool
@@ -20,9 +20,9 @@ is_bad Bad = true
 is_bad _ = false
 
 -- a repeat
-abbrev pub is_repeat : Kind → Bool
-is_repeat Repeat = true
-is_repeat _ = false
+abbrev pub is_repeat_kind : Kind → Bool
+is_repeat_kind Repeat = true
+is_repeat_kind _ = false
 
 -- `(` or `[`
 abbrev pub opens : Kind → Bool
@@ -54,7 +54,7 @@ begins_element _ = false
 
 -- a repetition can begin with an item of this kind: a repeat, or what begins an element
 abbrev pub begins_repetition : Kind → Bool
-begins_repetition k = is_repeat k || begins_element k
+begins_repetition k = is_repeat_kind k || begins_element k
 
 -- After an item of this kind an element must come.
 abbrev pub needs_element : Kind → Bool

@@ -12,7 +12,7 @@ use Rattle.abnf_syntax.specs.declared.parser.Level.{Level}
 use Rattle.abnf_syntax.specs.declared.parser.Opened.{Opened}
 use Rattle.abnf_syntax.specs.declared.parser.Parser.{Parser}
 use Rattle.abnf_syntax.specs.declared.tree.Rule.{Rule}
-use Rattle.abnf_syntax.specs.Kinds.{is_name, is_adds, is_defined_as}
+use Rattle.abnf_syntax.specs.Kinds.{is_name_kind, is_adds, is_defined_as}
 use Rattle.abnf_syntax.specs.Grammar.{kind_of, repetition, Alternation}
 use Rattle.abnf_syntax.specs.Faults.{rows_of, least, place_of, place_after}
 
@@ -23,8 +23,8 @@ pub record State : Type 0 where
   pub last : Item
 
 -- what the parser of the code has read, with its open brackets from the innermost on
-abbrev pub state_of : Parser → State
-state_of p = record { outer = reverse p.outer; level = p.level; last = p.last }
+abbrev pub parser_state : Parser → State
+parser_state p = record { outer = reverse p.outer; level = p.level; last = p.last }
 
 -- the tokens of the open brackets
 abbrev pub brackets : List Opened → List Token
@@ -113,7 +113,7 @@ parse_body head (defined ∷ body) = if is_defined_as (kind_of defined) then rul
 -- what is read of a block's items: a rule, or the first fault that is shown. A block has items, so of none it means nothing.
 abbrev pub parse : List Item → Result Rule SyntaxFault
 parse [] = Err Memory
-parse (head ∷ rest) = if is_name (kind_of head) then parse_body head rest else Err (NoName (place_of head.token))
+parse (head ∷ rest) = if is_name_kind (kind_of head) then parse_body head rest else Err (NoName (place_of head.token))
 
 -- The fault that the second or the third item shows behind a name, or the end where there are fewer.
 abbrev pub early_behind : Item → List Item → Option SyntaxFault
@@ -124,4 +124,4 @@ early_behind head (defined ∷ body) = if is_defined_as (kind_of defined) then f
 -- yet.
 abbrev pub early : List Item → Option SyntaxFault
 early [] = None
-early (head ∷ rest) = if is_name (kind_of head) then early_behind head rest else Some (NoName (place_of head.token))
+early (head ∷ rest) = if is_name_kind (kind_of head) then early_behind head rest else Some (NoName (place_of head.token))

@@ -17,7 +17,7 @@ use crate::fault::SyntaxFault;
 use crate::heading::Heading;
 use crate::item::Item;
 use crate::kinds::{closes, opens};
-use crate::table::{Front, shows_none};
+use crate::table::{ParseContext, shows_none};
 use abnf_token::Token;
 use ls_lists::List;
 use std::alloc::{AllocError, Global};
@@ -41,14 +41,14 @@ impl<'t> Checker<'t> {
     }
 
     /// What the table of faults looks at.
-    fn front(&self) -> Front<'t>
+    fn front(&self) -> ParseContext<'t>
         ensures { result ≡ record {
           inner = first_of (reverse self.now.brackets);
           depth = length (reverse self.now.brackets);
           last = self.now.last;
         } }
     {
-        Front {
+        ParseContext {
             inner: self.brackets.as_slice().last().copied(),
             depth: self.brackets.len(),
             last: self.last,

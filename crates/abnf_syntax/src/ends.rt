@@ -26,21 +26,21 @@ pub struct Headed<'t> {
 
 /// The first items of lines, at most two.
 #[derive(Clone, Copy)]
-enum Front<'t> {
+enum FirstItems<'t> {
     Nothing,
     One(Token<'t>),
     Two(Token<'t>, Token<'t>),
 }
 
-impl<'t> Front<'t> {
+impl<'t> FirstItems<'t> {
     /// The next item comes.
-    fn with(self, item: Token<'t>) -> Front<'t>
+    fn with(self, item: Token<'t>) -> FirstItems<'t>
         ensures { spec.front_views result ≡ take 2 (spec.front_views self.entry ++ view item.entry ∷ []) }
     {
         match self {
-            Front::Nothing => Front::One(item),
-            Front::One(first) => Front::Two(first, item),
-            Front::Two(..) => self,
+            FirstItems::Nothing => FirstItems::One(item),
+            FirstItems::One(first) => FirstItems::Two(first, item),
+            FirstItems::Two(..) => self,
         }
     }
 
@@ -49,13 +49,13 @@ impl<'t> Front<'t> {
         ensures { result ≡ spec.is_full self.entry }
     {
         match self {
-            Front::Two(..) => true,
+            FirstItems::Two(..) => true,
             _ => false,
         }
     }
 
     /// The items of a line come.
-    fn after_line(self, row: Row<'t>, at: usize) -> Front<'t>
+    fn after_line(self, row: Row<'t>, at: usize) -> FirstItems<'t>
         requires { AreMarks row.text.now row.marks.now }
         ensures { spec.front_views result ≡ take 2 (spec.front_views self.entry ++ spec.items_at at row.entry.text.now row.entry.marks.now) }
     {
@@ -76,17 +76,17 @@ impl<'t> Front<'t> {
         ensures { option_map spec.head_view result ≡ spec.head_seen (spec.front_views self.entry) }
     {
         match self {
-            Front::Two(first, second) => Head::of(first, second),
+            FirstItems::Two(first, second) => Head::of(first, second),
             _ => None,
         }
     }
 }
 
 /// The first items of these lines.
-fn front_of<'t>(sheet: &Sheet<'t>, first: usize, end: usize) -> Front<'t>
+fn front_of<'t>(sheet: &Sheet<'t>, first: usize, end: usize) -> FirstItems<'t>
     ensures { (seen : List spec.View) → spec.AreSeen sheet.now first end seen → spec.front_views result ≡ take 2 seen }
 {
-    let mut front = Front::Nothing;
+    let mut front = FirstItems::Nothing;
     for at in first..end {
         if front.is_full() {
             return front;

@@ -27,7 +27,7 @@ pub(crate) fn is_bad(kind: Kind) -> bool
 
 /// Whether it is a repeat.
 pub(crate) fn is_repeat(kind: Kind) -> bool
-    ensures { result ≡ kinds.is_repeat kind }
+    ensures { result ≡ kinds.is_repeat_kind kind }
 {
     match kind {
         Kind::Repeat => true,
@@ -116,7 +116,7 @@ pub(crate) fn ends_element(kind: Kind) -> bool
 
 /// Whether it is a name.
 pub(crate) fn is_name(kind: Kind) -> bool
-    ensures { result ≡ kinds.is_name kind }
+    ensures { result ≡ kinds.is_name_kind kind }
 {
     match kind {
         Kind::Name => true,

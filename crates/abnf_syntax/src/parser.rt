@@ -105,7 +105,7 @@ impl<'t> Parser<'t> {
 
     /// The parser behind `=` or `=/`.
     fn new(alloc: Global, spare: &mut Spare<'t>, defined: Item<'t>) -> Parser<'t>
-        ensures { spec.state_of result ≡ spec.start defined.entry }
+        ensures { spec.parser_state result ≡ spec.start defined.entry }
     {
         Parser {
             outer: List::new(alloc),
@@ -116,7 +116,7 @@ impl<'t> Parser<'t> {
 
     /// A bracket opens.
     fn open_bracket(&mut self, spare: &mut Spare<'t>, bracket: Token<'t>) -> Result<(), AllocError>
-        ensures { OnOk result (spec.state_of self.new ≡ record {
+        ensures { OnOk result (spec.parser_state self.new ≡ record {
           outer = record { bracket = bracket.entry; level = self.old.level } ∷ reverse self.old.outer;
           level = spec.empty;
           last = self.old.last;
@@ -128,7 +128,7 @@ impl<'t> Parser<'t> {
 
     /// The innermost bracket closes, if one is open.
     fn close_bracket(&mut self) -> Result<(), AllocError>
-        ensures { OnOk result (spec.state_of self.new ≡ spec.close_in (reverse self.old.outer) self.old.level self.old.last) }
+        ensures { OnOk result (spec.parser_state self.new ≡ spec.close_in (reverse self.old.outer) self.old.level self.old.last) }
     {
         let Some(opened) = self.outer.pop() else {
             return Ok(());
@@ -140,7 +140,7 @@ impl<'t> Parser<'t> {
     /// Takes the next item, which shows no fault.
     #[tactic(auto, unfolding(crate::specs::Machine::shift))]
     fn shift(&mut self, spare: &mut Spare<'t>, item: &Item<'t>) -> Result<(), AllocError>
-        ensures { OnOk result (spec.state_of self.new ≡ spec.shift (spec.state_of self.old) item.now) }
+        ensures { OnOk result (spec.parser_state self.new ≡ spec.shift (spec.parser_state self.old) item.now) }
     {
         let token = item.token;
         self.last = *item;

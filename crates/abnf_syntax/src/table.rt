@@ -20,7 +20,7 @@ pub const MAX_NESTING: usize = 64;
 
 /// What the table looks at: the innermost bracket that is open, how many are open, and the last item.
 #[derive(Clone, Copy)]
-pub(crate) struct Front<'t> {
+pub(crate) struct ParseContext<'t> {
     pub inner: Option<Token<'t>>,
     pub depth: usize,
     pub last: Item<'t>,
@@ -70,7 +70,7 @@ pub(crate) fn shows_none(last: Kind, kind: Kind) -> bool
     }
 }
 
-impl<'t> Front<'t> {
+impl<'t> ParseContext<'t> {
     /// The fault that the end shows.
     #[tactic(auto, unfolding(crate::specs::own::Check::fault_behind))]
     pub(crate) fn end_fault(&self) -> Option<SyntaxFault>

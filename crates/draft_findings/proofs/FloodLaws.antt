@@ -5,7 +5,7 @@ use Rattle.std.specs.List.{prefix_len}
 use Rattle.std.proofs.lemmas.Bool.{le-ltb}
 use Rattle.std.proofs.lemmas.List.{take-append-drop}
 use Rattle.std.proofs.lemmas.List.Sums.{sum_by-append}
-use Rattle.draft_findings.specs.Reports.{Remarked, alone, cut, is_before, is_fault, of_block}
+use Rattle.draft_findings.specs.Reports.{Remarked, alone, cut_at, is_in_front, is_fault, of_block}
 use Rattle.std.specs.Prelude.{find}
 
 -- faults of both parts
@@ -17,10 +17,10 @@ few_in : (rs : List Remarked) → count_by is_fault rs ≤ 10 → of_block rs �
 few_in rs le =
     ap (λ b. cond b (alone (count_by is_fault rs) (find is_fault rs)) rs) (le-ltb 10 (count_by is_fault rs) le)
 
-pub few : (ends : List ℕ) (rs : List Remarked) → count_by is_fault rs ≤ 10 → cut ends rs ≡ rs
+pub few : (ends : List ℕ) (rs : List Remarked) → count_by is_fault rs ≤ 10 → cut_at ends rs ≡ rs
 few [] rs le = refl
 few (end ∷ ends) rs le =
-    let n = prefix_len (is_before end) rs in
+    let n = prefix_len (is_in_front end) rs in
     let front = few_in (take n rs) (omega (arith, le, parts n rs)) in
     let back = few ends (drop n rs) (omega (arith, le, parts n rs)) in
     (λ i. front i ++ back i) ∙ take-append-drop n rs

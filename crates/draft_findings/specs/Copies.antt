@@ -14,12 +14,12 @@ is_duplicate Duplicate = true
 is_duplicate _ = false
 
 -- the definition of a finding that says that its name is defined before, where it repeats one in a draft
-abbrev pub repeat_of : List Repeat → Finding → Option Repeat
-repeat_of repeats finding = if is_duplicate finding.code then repeat_at repeats finding.place.line else None
+abbrev pub repeat_in_draft : List Repeat → Finding → Option Repeat
+repeat_in_draft repeats finding = if is_duplicate finding.code then repeat_at repeats finding.place.line else None
 
 -- the definition of the finding says the same as the first
 abbrev pub is_copy : List Repeat → Finding → Bool
-is_copy repeats finding = option_map_or (λ r. r.is_same) (repeat_of repeats finding) false
+is_copy repeats finding = option_map_or (λ r. r.is_same) (repeat_in_draft repeats finding) false
 
 -- the findings but for those of copies
 abbrev pub without_copies : List Repeat → List Finding → List Finding
@@ -27,4 +27,4 @@ without_copies repeats found = filter (λ finding. not (is_copy repeats finding)
 
 -- the line in the grammar's text of the first definition, of which the finding's definition differs, if it does
 abbrev pub original_of : List Repeat → Finding → Option ℕ
-original_of repeats finding = option_map (λ r. r.original) (repeat_of repeats finding)
+original_of repeats finding = option_map (λ r. r.original) (repeat_in_draft repeats finding)

@@ -48,17 +48,17 @@ abbrev pub of_block : List Remarked → List Remarked
 of_block rs = if nat_lt 10 (count_by is_fault rs) then alone (count_by is_fault rs) (find is_fault rs) else rs
 
 -- it stands in front of a line
-abbrev pub is_before : ℕ → Remarked → Bool
-is_before end r = nat_lt r.finding.place.line end
+abbrev pub is_in_front : ℕ → Remarked → Bool
+is_in_front end r = nat_lt r.finding.place.line end
 
 -- what is reported of findings in blocks that end at these lines, each the first line behind its block: what each block has up to
 -- there, and behind the last one all
-abbrev pub cut : List ℕ → List Remarked → List Remarked
-cut [] rs = rs
-cut (end ∷ ends) rs =
-    let n = prefix_len (is_before end) rs in
-    of_block (take n rs) ++ cut ends (drop n rs)
+abbrev pub cut_at : List ℕ → List Remarked → List Remarked
+cut_at [] rs = rs
+cut_at (end ∷ ends) rs =
+    let n = prefix_len (is_in_front end) rs in
+    of_block (take n rs) ++ cut_at ends (drop n rs)
 
 -- what is reported in a draft, where these definitions repeat others and its blocks end at these lines of the grammar's text
 abbrev pub reported : List Repeat → List ℕ → List Finding → List Remarked
-reported repeats ends found = cut ends (map (remarked repeats) (without_copies repeats found))
+reported repeats ends found = cut_at ends (map (remarked repeats) (without_copies repeats found))

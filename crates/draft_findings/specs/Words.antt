@@ -9,11 +9,11 @@ abbrev pub differing : List ℕ → ℕ → List ℕ
 differing name line = codes "rule " ++ name ++ codes " differs from its definition at line " ++ decimal (line + 1)
 
 -- what is said behind the message of the first of so many faults
-abbrev pub first_of : ℕ → List ℕ
-first_of count = codes " (the first of " ++ decimal count ++ codes " faults in this block)"
+abbrev pub first_of_many : ℕ → List ℕ
+first_of_many count = codes " (the first of " ++ decimal count ++ codes " faults in this block)"
 
 -- what a remark adds to a message
 abbrev pub addition : Remark → List ℕ
 addition Plain = []
 addition (Differs line) = []
-addition (FirstOf count) = first_of count
+addition (FirstOf count) = first_of_many count

@@ -21,7 +21,7 @@ const MOST_FAULTS: usize = 10;
 
 /// The definition of a finding that says that its name is defined before, where it repeats one.
 fn repeat_of(repeats: &Repeats, finding: &Finding) -> Option<Repeat>
-    ensures { result ≡ copies.repeat_of repeats.now finding.now }
+    ensures { result ≡ copies.repeat_in_draft repeats.now finding.now }
 {
     match finding.code {
         Code::Duplicate => repeats.at(finding.place.line),
@@ -127,7 +127,7 @@ fn push_block<'f>(kept: &mut List<Reported<'f>>, block: &[Reported<'f>]) -> Resu
 
 /// How many at the front stand in front of a line.
 fn block_len(rest: &[Reported<'_>], end: usize) -> usize
-    ensures { result ≡ prefix_len (spec.is_before end) rest.now }
+    ensures { result ≡ prefix_len (spec.is_in_front end) rest.now }
 {
     rest.iter()
         .take_while(|reported| reported.is_before(end))
@@ -140,7 +140,7 @@ fn cut<'f>(
     all: &[Reported<'f>],
     ends: &[usize],
 ) -> Result<List<Reported<'f>>, Memory>
-    ensures { IfOk result (λ kept. kept ≡ spec.cut ends.now all.now) }
+    ensures { IfOk result (λ kept. kept ≡ spec.cut_at ends.now all.now) }
 {
     let mut kept = List::new(alloc);
     let mut at = 0usize;

@@ -73,7 +73,7 @@ impl<'f> Reported<'f> {
 
     /// Whether it stands in front of a line.
     pub(crate) fn is_before(&self, end: usize) -> bool
-        ensures { result ≡ spec.is_before end self.now }
+        ensures { result ≡ spec.is_in_front end self.now }
     {
         self.finding.place.line < end
     }

@@ -25,7 +25,7 @@ pub fn differing(alloc: Global, name: &str, line: u32) -> Result<String, Memory>
 
 /// Appends what is said of the first of so many faults.
 fn push_first_of(text: &mut String, alloc: Global, count: usize) -> Result<(), Memory>
-    ensures { OnOk result (string_bytes text.new ≡ string_bytes text.old ++ spec.first_of count) }
+    ensures { OnOk result (string_bytes text.new ≡ string_bytes text.old ++ spec.first_of_many count) }
 {
     let number = format!(in alloc; "{count}")?;
     text.push_str(" (the first of ")?;

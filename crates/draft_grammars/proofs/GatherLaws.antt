@@ -9,12 +9,12 @@ use Rattle.std.proofs.lemmas.Bool.{eqb-true, true≢false}
 use Rattle.std.proofs.lemmas.Str.{len_utf8_bounds, length-encode}
 use Rattle.std.proofs.lemmas.List.{length-map}
 use Rattle.ls_text.specs.Lines.{ends_line}
-use Rattle.origins.specs.Origins.{Sourced, SourcedBlock, aligned, characters, first_indent, from, grammar_of, is_blank_char, is_break, left_aligned}
+use Rattle.origins.specs.Origins.{Sourced, SourcedBlock, aligned, characters, first_indent, from, gathered_grammar, is_blank_char, is_break, left_aligned}
 use Rattle.markdown_blocks.specs.Fences.{Line, begins_comment, begins_extension, behind_line, behind_text, closes_fence, ended_block, ends_extension, fence_content, fenced_blocks, first_says, has_end, margin, markdown_blocks, may_ask, opening_fence, placed_lines_from, put_placed, says_abnf, with_word, without_end}
 use Rattle.markdown_blocks.specs.declared.fence.Fence.{Fence}
 use Rattle.markdown_blocks.specs.declared.reading.Reading.{Reading}
 use Rattle.markdown_blocks.specs.declared.reading.Reading.TheVariants as reading
-use Rattle.xml_blocks.specs.Xml.{Opened, begins, behind_piece, by_name, by_number, element_front, ended_at, ends, from_piece_on, is_plain_char, is_scalar, markup, named_value, number, numbered_value, opened_by, piece_at, piece_content, piece_of, put_before, reference, referred_piece, section_text, tag_len, until, value_with_digit, with_value}
+use Rattle.xml_blocks.specs.Xml.{Opened, begins_with_mark, behind_piece, by_name, by_number, element_front, ended_at, closes_element, from_piece_on, is_plain_char, is_scalar, markup, named_value, number, numbered_value, opened_by, piece_at, piece_content, piece_of, put_before, reference, referred_piece, section_text, tag_len, until, value_with_digit, with_value}
 use Rattle.xml_blocks.specs.declared.fault.XmlFault.{XmlFault}
 use Rattle.xml_blocks.specs.declared.fault.XmlFault.TheVariants.{CommentWithoutEnd, SectionWithoutEnd, TagWithoutEnd}
 use Rattle.xml_blocks.specs.declared.piece.Kind.{Kind}
@@ -26,9 +26,9 @@ use Rattle.draft_grammars.specs.declared.format.Format.{Format}
 use Rattle.draft_grammars.specs.declared.format.Format.TheVariants.{Markdown, Xml}
 
 -- the grammar of blocks, and then of others
-pub grammar_of_append : (bs cs : List SourcedBlock) → grammar_of (bs ++ cs) ≡ grammar_of bs ++ grammar_of cs
+pub grammar_of_append : (bs cs : List SourcedBlock) → gathered_grammar (bs ++ cs) ≡ gathered_grammar bs ++ gathered_grammar cs
 grammar_of_append [] cs = refl
-grammar_of_append (b ∷ bs) cs = ap (λ g. aligned b ++ g) (grammar_of_append bs cs) ∙ sym (append_assoc (aligned b) (grammar_of bs) (grammar_of cs))
+grammar_of_append (b ∷ bs) cs = ap (λ g. aligned b ++ g) (grammar_of_append bs cs) ∙ sym (append_assoc (aligned b) (gathered_grammar bs) (gathered_grammar cs))
 
 -- what a text weighs
 abbrev pub size : (ℕ → ℕ) → List ℕ → ℕ
@@ -82,10 +82,10 @@ module _ (f : ℕ → ℕ) (some : (c : ℕ) → 1 ≤ f c) (one : f 10 ≡ 1) w
       let rest = size_drop gone l.1 in
       omega (arith, all, rest)
 
-  weight_ended : (fence : Fence) (content : List Sourced) (at : ℕ) → weight f (grammar_of (ended_block fence content at)) ≤ weight f content + 1
+  weight_ended : (fence : Fence) (content : List Sourced) (at : ℕ) → weight f (gathered_grammar (ended_block fence content at)) ≤ weight f content + 1
   weight_ended fence content at = by fence.is_abnf
     where
-      by : (b : Bool) → weight f (grammar_of (if b then record { content = content; end = at } ∷ [] else [])) ≤ weight f content + 1
+      by : (b : Bool) → weight f (gathered_grammar (if b then record { content = content; end = at } ∷ [] else [])) ≤ weight f content + 1
       by true =
           let block : SourcedBlock = record { content = content; end = at } in
           let rest = weight_block block in
@@ -149,11 +149,11 @@ module _ (f : ℕ → ℕ) (some : (c : ℕ) → 1 ≤ f c) (one : f 10 ≡ 1) w
   bound_line r line = bound_opened r line
 
   abbrev IsGatheredLe : ℕ → Reading → List Sourced → List Line → Type 0
-  IsGatheredLe end r content ls = weight f (grammar_of (fenced_blocks end r content ls)) ≤ bound r content + total ls
+  IsGatheredLe end r content ls = weight f (gathered_grammar (fenced_blocks end r content ls)) ≤ bound r content + total ls
 
   -- a line that isn't in a block pays for the block that it opens
   behind_le : (end : ℕ) (r : Reading) (l : Line) (ls : List Line) → IsGatheredLe end (behind_line r (without_end l.1)) [] ls
-      → weight f (grammar_of (fenced_blocks end (behind_line r (without_end l.1)) [] ls)) ≤ 0 + (size f l.1 + total ls)
+      → weight f (gathered_grammar (fenced_blocks end (behind_line r (without_end l.1)) [] ls)) ≤ 0 + (size f l.1 + total ls)
   behind_le end r l ls rest = let line = bound_line r l.1 in omega (arith, rest, line)
 
   gathered_le : (end : ℕ) (r : Reading) (content : List Sourced) (ls : List Line) → IsGatheredLe end r content ls
@@ -163,16 +163,16 @@ module _ (f : ℕ → ℕ) (some : (c : ℕ) → 1 ≤ f c) (one : f 10 ≡ 1) w
   gathered_le end (reading.Block fence) content (l ∷ ls) =
       by (closes_fence fence (without_end l.1)) (gathered_le end reading.BehindBlock [] ls) (gathered_le end (reading.Block fence) (content ++ fence_content fence l) ls)
     where
-      by : (b : Bool) → weight f (grammar_of (fenced_blocks end reading.BehindBlock [] ls)) ≤ 0 + total ls
-          → weight f (grammar_of (fenced_blocks end (reading.Block fence) (content ++ fence_content fence l) ls)) ≤ weight f (content ++ fence_content fence l) + 1 + total ls
-          → weight f (grammar_of (if b then ended_block (with_word (first_says ls) fence) content l.0 ++ fenced_blocks end reading.BehindBlock [] ls else fenced_blocks end (reading.Block fence) (content ++ fence_content fence l) ls))
+      by : (b : Bool) → weight f (gathered_grammar (fenced_blocks end reading.BehindBlock [] ls)) ≤ 0 + total ls
+          → weight f (gathered_grammar (fenced_blocks end (reading.Block fence) (content ++ fence_content fence l) ls)) ≤ weight f (content ++ fence_content fence l) + 1 + total ls
+          → weight f (gathered_grammar (if b then ended_block (with_word (first_says ls) fence) content l.0 ++ fenced_blocks end reading.BehindBlock [] ls else fenced_blocks end (reading.Block fence) (content ++ fence_content fence l) ls))
           ≤ weight f content + 1 + (size f l.1 + total ls)
       by true rest inside =
           let fence = with_word (first_says ls) fence in
           let closed = ended_block fence content l.0 in
           let others = fenced_blocks end reading.BehindBlock [] ls in
           let ended = weight_ended fence content l.0 in
-          let parts = ap (weight f) (grammar_of_append closed others) ∙ weight_append (grammar_of closed) (grammar_of others) in
+          let parts = ap (weight f) (grammar_of_append closed others) ∙ weight_append (gathered_grammar closed) (gathered_grammar others) in
           omega (arith, rest, ended, parts)
       by false outside rest =
           let more = weight_append content (fence_content fence l) in
@@ -180,11 +180,11 @@ module _ (f : ℕ → ℕ) (some : (c : ℕ) → 1 ≤ f c) (one : f 10 ≡ 1) w
           omega (arith, rest, more, line)
   gathered_le end r content (l ∷ ls) = behind_le end r l ls (gathered_le end (behind_line r (without_end l.1)) [] ls)
 
-  pub markdown_le : (draft : List ℕ) → size f (characters (grammar_of (markdown_blocks draft))) ≤ size f draft
+  pub markdown_le : (draft : List ℕ) → size f (characters (gathered_grammar (markdown_blocks draft))) ≤ size f draft
   markdown_le draft =
       let rest = gathered_le (length draft) reading.Text [] (placed_lines_from 0 draft) in
       let lines = size_lines 0 draft in
-      let same = weight_characters (grammar_of (markdown_blocks draft)) in
+      let same = weight_characters (gathered_grammar (markdown_blocks draft)) in
       omega (arith, rest, lines, same)
 
   -- ---- the same in XML, where no character weighs more than four
@@ -193,11 +193,11 @@ module _ (f : ℕ → ℕ) (some : (c : ℕ) → 1 ≤ f c) (one : f 10 ≡ 1) w
   right_of true b e = e
   right_of false b e = absurd (cc (e))
 
-  begins_long : (m t : List ℕ) → begins m t ≡ true → length m ≤ length t
-  unfolding begins
+  begins_long : (m t : List ℕ) → begins_with_mark m t ≡ true → length m ≤ length t
+  unfolding begins_with_mark
   begins_long [] t e = omega arith
   begins_long (m ∷ ms) [] e = absurd (cc (e))
-  begins_long (m ∷ ms) (c ∷ t) e = let rest = begins_long ms t (right_of (c == m) (begins ms t) e) in omega (arith, rest)
+  begins_long (m ∷ ms) (c ∷ t) e = let rest = begins_long ms t (right_of (c == m) (begins_with_mark ms t) e) in omega (arith, rest)
 
   abbrev Within : ℕ → ℕ → ℕ × ℕ → Type 0
   Within least most r = (least ≤ r.1) × (r.1 ≤ most)
@@ -267,17 +267,17 @@ module _ (f : ℕ → ℕ) (some : (c : ℕ) → 1 ≤ f c) (one : f 10 ≡ 1) w
       by false digit e = absurd (cc (e))
 
   by_number_long : (t : List ℕ) (r : ℕ × ℕ) → by_number t ≡ Some r → Within 3 (length t) r
-  by_number_long t r e = by (begins (35 ∷ 120 ∷ []) t) (begins (35 ∷ []) t) e
+  by_number_long t r e = by (begins_with_mark (35 ∷ 120 ∷ []) t) (begins_with_mark (35 ∷ []) t) e
     where
       by : (hex number : Bool) → (if hex then numbered_value 16 2 t else (if number then numbered_value 10 1 t else None)) ≡ Some r → Within 3 (length t) r
       by true number e = let found = numbered_long 16 2 t r refl e in (omega (arith, found.0), found.1)
       by false true e = let found = numbered_long 10 1 t r refl e in (omega (arith, found.0), found.1)
       by false false e = absurd (cc (e))
 
-  named_long : (m t : List ℕ) (c n : ℕ) (other : Option (ℕ × ℕ)) (r : ℕ × ℕ) → 3 ≤ n → length m ≡ n → (other ≡ Some r → Within 3 (length t) r) → (if begins m t then Some (c, n) else other) ≡ Some r → Within 3 (length t) r
-  named_long m t c n other r least long rest e = by (begins m t) refl e
+  named_long : (m t : List ℕ) (c n : ℕ) (other : Option (ℕ × ℕ)) (r : ℕ × ℕ) → 3 ≤ n → length m ≡ n → (other ≡ Some r → Within 3 (length t) r) → (if begins_with_mark m t then Some (c, n) else other) ≡ Some r → Within 3 (length t) r
+  named_long m t c n other r least long rest e = by (begins_with_mark m t) refl e
     where
-      by : (b : Bool) → begins m t ≡ b → (if b then Some (c, n) else other) ≡ Some r → Within 3 (length t) r
+      by : (b : Bool) → begins_with_mark m t ≡ b → (if b then Some (c, n) else other) ≡ Some r → Within 3 (length t) r
       by true is e =
           let same : (c, n) ≡ r = cc (e) in
           let count : n ≡ r.1 = ap (λ (q : ℕ × ℕ). q.1) same in
@@ -322,7 +322,7 @@ module _ (f : ℕ → ℕ) (some : (c : ℕ) → 1 ≤ f c) (one : f 10 ≡ 1) w
   IsFair at c t piece = weight f (piece_content piece.kind at (take piece.more t)) ≤ f c + size f (take piece.more t)
 
   fair_markup : (at c : ℕ) (t : List ℕ) (piece : Piece) → markup at t ≡ Ok piece → IsFair at c t piece
-  fair_markup at c t piece e = by (begins (33 ∷ 45 ∷ 45 ∷ []) t) (begins (33 ∷ 91 ∷ 67 ∷ 68 ∷ 65 ∷ 84 ∷ 65 ∷ 91 ∷ []) t) e
+  fair_markup at c t piece e = by (begins_with_mark (33 ∷ 45 ∷ 45 ∷ []) t) (begins_with_mark (33 ∷ 91 ∷ 67 ∷ 68 ∷ 65 ∷ 84 ∷ 65 ∷ 91 ∷ []) t) e
     where
       made : (kind : Kind) (fault : XmlFault) (o : Option ℕ) (front : ℕ) → ((n : ℕ) → IsFair at c t (record { kind = kind; more = n })) → piece_of kind fault o front ≡ Ok piece → IsFair at c t piece
       made kind fault None front all e = absurd (cc (e))
@@ -366,7 +366,7 @@ module _ (f : ℕ → ℕ) (some : (c : ℕ) → 1 ≤ f c) (one : f 10 ≡ 1) w
   bound_of (Some opened) = weight f opened.1 + 1
 
   abbrev IsBounded : Option Opened × List SourcedBlock → ℕ → Type 0
-  IsBounded next n = weight f (grammar_of next.1) + bound_of next.0 ≤ n
+  IsBounded next n = weight f (gathered_grammar next.1) + bound_of next.0 ≤ n
 
   step_le : (state : Option Opened) (kind : Kind) (at c : ℕ) (t : List ℕ) → weight f (piece_content kind at t) ≤ f c + size f t → IsBounded (behind_piece state kind at t) (bound_of state + (f c + size f t))
   step_le None kind at c t le = by (opened_by kind at t)
@@ -374,7 +374,7 @@ module _ (f : ℕ → ℕ) (some : (c : ℕ) → 1 ≤ f c) (one : f 10 ≡ 1) w
       by : (o : Option Begun) → IsBounded (option_map (λ (o : Begun). (o, [])) o, []) (0 + (f c + size f t))
       by None = omega arith
       by (Some o) = let first = some c in omega (arith, first)
-  step_le (Some opened) kind at c t le = by (ends (opened.0).element kind t)
+  step_le (Some opened) kind at c t le = by (closes_element (opened.0).element kind t)
     where
       by : (b : Bool) → IsBounded (if b then (None, record { content = opened.1; end = at } ∷ []) else (Some (opened.0, opened.1 ++ piece_content kind at t), [])) (weight f opened.1 + 1 + (f c + size f t))
       by true =
@@ -384,7 +384,7 @@ module _ (f : ℕ → ℕ) (some : (c : ℕ) → 1 ≤ f c) (one : f 10 ≡ 1) w
           omega (arith, rest, both)
       by false = let more = weight_append opened.1 (piece_content kind at t) in omega (arith, more, le)
 
-  ended_le : (state : Option Opened) (at : ℕ) → weight f (grammar_of (ended_at state at)) ≤ bound_of state
+  ended_le : (state : Option Opened) (at : ℕ) → weight f (gathered_grammar (ended_at state at)) ≤ bound_of state
   ended_le None at = omega arith
   ended_le (Some opened) at =
       let block : SourcedBlock = record { content = opened.1; end = at } in
@@ -392,15 +392,15 @@ module _ (f : ℕ → ℕ) (some : (c : ℕ) → 1 ≤ f c) (one : f 10 ≡ 1) w
       let both = weight_append (aligned block) [] in
       omega (arith, rest, both)
 
-  elements_le : ((c : ℕ) → f c ≤ 4) → (state : Option Opened) (read at : ℕ) (t : List ℕ) → weight f (grammar_of (element_front state read at t).blocks) ≤ bound_of state + size f (drop read t)
+  elements_le : ((c : ℕ) → f c ≤ 4) → (state : Option Opened) (read at : ℕ) (t : List ℕ) → weight f (gathered_grammar (element_front state read at t).blocks) ≤ bound_of state + size f (drop read t)
   unfolding element_front
   elements_le most None read at [] = omega arith
   elements_le most (Some opened) read at [] = omega arith
   elements_le most state (suc read) at (c ∷ t) = elements_le most state read (suc at) t
   elements_le most state zero at (c ∷ t) = by (λ s read. elements_le most s read (suc at) t) (piece_at (is_some state) at c t) refl
     where
-      by : ((s : Option Opened) (read : ℕ) → weight f (grammar_of (element_front s read (suc at) t).blocks) ≤ bound_of s + size f (drop read t)) → (r : Result Piece XmlFault) → piece_at (is_some state) at c t ≡ r
-          → weight f (grammar_of (from_piece_on state at r (λ piece.
+      by : ((s : Option Opened) (read : ℕ) → weight f (gathered_grammar (element_front s read (suc at) t).blocks) ≤ bound_of s + size f (drop read t)) → (r : Result Piece XmlFault) → piece_at (is_some state) at c t ≡ r
+          → weight f (gathered_grammar (from_piece_on state at r (λ piece.
           put_before (behind_piece state piece.kind at (take piece.more t)).1 (element_front (behind_piece state piece.kind at (take piece.more t)).0 piece.more (suc at) t))).blocks)
           ≤ bound_of state + (f c + size f t)
       by all (Err fault) is = let ended = ended_le state at in omega (arith, ended)
@@ -409,7 +409,7 @@ module _ (f : ℕ → ℕ) (some : (c : ℕ) → 1 ≤ f c) (one : f 10 ≡ 1) w
           let behind = element_front next.0 piece.more (suc at) t in
           let rest = all next.0 piece.more in
           let step = step_le state piece.kind at c (take piece.more t) (fair most (is_some state) at c t piece is) in
-          let parts = ap (weight f) (grammar_of_append next.1 behind.blocks) ∙ weight_append (grammar_of next.1) (grammar_of behind.blocks) in
+          let parts = ap (weight f) (grammar_of_append next.1 behind.blocks) ∙ weight_append (gathered_grammar next.1) (gathered_grammar behind.blocks) in
           let both = size_take piece.more t in
           omega (arith, rest, step, parts, both)
 
@@ -436,14 +436,14 @@ bytes_sum (c ∷ t) =
     omega (arith, all, length-encode c, rest)
 
 -- and no more bytes
-pub markdown_small : (draft : List ℕ) → length (encode_utf8_all (characters (grammar_of (markdown_blocks draft)))) ≤ length (encode_utf8_all draft)
+pub markdown_small : (draft : List ℕ) → length (encode_utf8_all (characters (gathered_grammar (markdown_blocks draft)))) ≤ length (encode_utf8_all draft)
 markdown_small draft =
     let le = markdown_le len_utf8 (λ c. (len_utf8_bounds c).0) refl draft in
-    omega (arith, le, bytes_sum (characters (grammar_of (markdown_blocks draft))), bytes_sum draft)
+    omega (arith, le, bytes_sum (characters (gathered_grammar (markdown_blocks draft))), bytes_sum draft)
 
-pub markdown_short : (draft : List ℕ) → length (grammar_of (markdown_blocks draft)) ≤ length draft
+pub markdown_short : (draft : List ℕ) → length (gathered_grammar (markdown_blocks draft)) ≤ length draft
 markdown_short draft =
-    let g = grammar_of (markdown_blocks draft) in
+    let g = gathered_grammar (markdown_blocks draft) in
     let le = markdown_le (λ c. 1) (λ c. omega arith) refl draft in
     omega (arith, le, sizes (characters g), sizes draft, length-map g (λ (c : Sourced). c.0))
 

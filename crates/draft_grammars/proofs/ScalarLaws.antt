@@ -7,12 +7,12 @@ use Rattle.std.specs.Char.{IsScalar, digit_value, is_digit}
 use Rattle.std.proofs.lemmas.Bool.{ltb-true, lt-ltb, le-leb, leb-true}
 use Rattle.std.proofs.lemmas.List.Elements.{All-from_recursion, recursion_from_All}
 use Rattle.ls_text.specs.Lines.{ends_line}
-use Rattle.origins.specs.Origins.{Sourced, SourcedBlock, aligned, characters, first_indent, from, grammar_of, is_blank_char, is_break, left_aligned}
+use Rattle.origins.specs.Origins.{Sourced, SourcedBlock, aligned, characters, first_indent, from, gathered_grammar, is_blank_char, is_break, left_aligned}
 use Rattle.markdown_blocks.specs.Fences.{Line, behind_line, closes_fence, ended_block, fence_content, fenced_blocks, first_says, margin, placed_lines_from, put_placed, with_word, without_end}
 use Rattle.markdown_blocks.specs.declared.fence.Fence.{Fence}
 use Rattle.markdown_blocks.specs.declared.reading.Reading.{Reading}
 use Rattle.markdown_blocks.specs.declared.reading.Reading.TheVariants as reading
-use Rattle.xml_blocks.specs.Xml.{Opened, begins, behind_piece, by_name, by_number, element_front, ended_at, ends, from_piece_on, is_plain_char, is_scalar, markup, named_value, number, numbered_value, opened_by, piece_at, piece_content, piece_of, put_before, reference, referred_piece, section_text, tag_len, until, value_with_digit, with_value}
+use Rattle.xml_blocks.specs.Xml.{Opened, begins_with_mark, behind_piece, by_name, by_number, element_front, ended_at, closes_element, from_piece_on, is_plain_char, is_scalar, markup, named_value, number, numbered_value, opened_by, piece_at, piece_content, piece_of, put_before, reference, referred_piece, section_text, tag_len, until, value_with_digit, with_value}
 use Rattle.xml_blocks.specs.declared.fault.XmlFault.{XmlFault}
 use Rattle.xml_blocks.specs.declared.fault.XmlFault.TheVariants.{CommentWithoutEnd, SectionWithoutEnd, TagWithoutEnd}
 use Rattle.xml_blocks.specs.declared.piece.Kind.{Kind}
@@ -72,18 +72,18 @@ are_block b h =
     let base = first_indent (Some 0) (characters b.content) in
     both (λ (c : Sourced). IsScalar c.0) (left_aligned base base b.content) (line_end b.end) (are_left base base b.content h) (refl, tt)
 
-are_one : (b : SourcedBlock) → AreOf b.content → AreOf (grammar_of (b ∷ []))
+are_one : (b : SourcedBlock) → AreOf b.content → AreOf (gathered_grammar (b ∷ []))
 are_one b h = both (λ (c : Sourced). IsScalar c.0) (aligned b) [] (are_block b h) tt
 
-are_ended : (fence : Fence) (content : List Sourced) (at : ℕ) → AreOf content → AreOf (grammar_of (ended_block fence content at))
+are_ended : (fence : Fence) (content : List Sourced) (at : ℕ) → AreOf content → AreOf (gathered_grammar (ended_block fence content at))
 are_ended fence content at h = by fence.is_abnf
   where
-    by : (b : Bool) → AreOf (grammar_of (if b then record { content = content; end = at } ∷ [] else []))
+    by : (b : Bool) → AreOf (gathered_grammar (if b then record { content = content; end = at } ∷ [] else []))
     by true = are_one (record { content = content; end = at }) h
     by false = tt
 
-are_joined : (bs cs : List SourcedBlock) → AreOf (grammar_of bs) → AreOf (grammar_of cs) → AreOf (grammar_of (bs ++ cs))
-are_joined bs cs h k = subst AreOf (sym (grammar_of_append bs cs)) (both (λ (c : Sourced). IsScalar c.0) (grammar_of bs) (grammar_of cs) h k)
+are_joined : (bs cs : List SourcedBlock) → AreOf (gathered_grammar bs) → AreOf (gathered_grammar cs) → AreOf (gathered_grammar (bs ++ cs))
+are_joined bs cs h k = subst AreOf (sym (grammar_of_append bs cs)) (both (λ (c : Sourced). IsScalar c.0) (gathered_grammar bs) (gathered_grammar cs) h k)
 
 -- ---- Markdown
 
@@ -109,7 +109,7 @@ are_content fence l h =
     let gone = min fence.indent (margin fence.quoted l.1) in
     are_from (l.0 + gone) (drop gone l.1) (are_drop gone l.1 h)
 
-are_gathered : (end : ℕ) (r : Reading) (content : List Sourced) (ls : List Line) → AreOf content → AreLines ls → AreOf (grammar_of (fenced_blocks end r content ls))
+are_gathered : (end : ℕ) (r : Reading) (content : List Sourced) (ls : List Line) → AreOf content → AreLines ls → AreOf (gathered_grammar (fenced_blocks end r content ls))
 unfolding fenced_blocks
 are_gathered end (reading.Block fence) content [] h k = are_ended fence content end h
 are_gathered end r content [] h k = tt
@@ -117,8 +117,8 @@ are_gathered end (reading.Block fence) content (l ∷ ls) h k =
     by (closes_fence fence (without_end l.1)) (are_gathered end reading.BehindBlock [] ls tt k.1)
     (are_gathered end (reading.Block fence) (content ++ fence_content fence l) ls (both (λ (c : Sourced). IsScalar c.0) content (fence_content fence l) h (are_content fence l k.0)) k.1)
   where
-    by : (b : Bool) → AreOf (grammar_of (fenced_blocks end reading.BehindBlock [] ls)) → AreOf (grammar_of (fenced_blocks end (reading.Block fence) (content ++ fence_content fence l) ls))
-        → AreOf (grammar_of (if b then ended_block (with_word (first_says ls) fence) content l.0 ++ fenced_blocks end reading.BehindBlock [] ls
+    by : (b : Bool) → AreOf (gathered_grammar (fenced_blocks end reading.BehindBlock [] ls)) → AreOf (gathered_grammar (fenced_blocks end (reading.Block fence) (content ++ fence_content fence l) ls))
+        → AreOf (gathered_grammar (if b then ended_block (with_word (first_says ls) fence) content l.0 ++ fenced_blocks end reading.BehindBlock [] ls
         else fenced_blocks end (reading.Block fence) (content ++ fence_content fence l) ls))
     by true outside inside =
         let fence = with_word (first_says ls) fence in
@@ -189,7 +189,7 @@ numbered_scalar base front t r e = by (is_digit (slice_index (drop front t) 0) b
     by false e = absurd (cc (e))
 
 by_number_scalar : (t : List ℕ) (r : ℕ × ℕ) → by_number t ≡ Some r → IsScalar r.0
-by_number_scalar t r e = by (begins (35 ∷ 120 ∷ []) t) (begins (35 ∷ []) t) e
+by_number_scalar t r e = by (begins_with_mark (35 ∷ 120 ∷ []) t) (begins_with_mark (35 ∷ []) t) e
   where
     by : (hex number : Bool) → (if hex then numbered_value 16 2 t else (if number then numbered_value 10 1 t else None)) ≡ Some r → IsScalar r.0
     by true number e = numbered_scalar 16 2 t r e
@@ -202,19 +202,19 @@ named_by false c n other r own rest e = rest e
 
 by_name_scalar : (t : List ℕ) (r : ℕ × ℕ) → by_name t ≡ Some r → IsScalar r.0
 by_name_scalar t r e =
-    named_by (begins (110 ∷ 98 ∷ 115 ∷ 112 ∷ 59 ∷ []) t) 0xA0 5 _ r refl
-    (λ e. named_by (begins (110 ∷ 98 ∷ 104 ∷ 121 ∷ 59 ∷ []) t) 0x2011 5 _ r refl
-    (λ e. named_by (begins (122 ∷ 119 ∷ 115 ∷ 112 ∷ 59 ∷ []) t) 0x200B 5 _ r refl
-    (λ e. named_by (begins (119 ∷ 106 ∷ 59 ∷ []) t) 0x2060 3 _ r refl (λ e. by_number_scalar t r e) e) e) e)
+    named_by (begins_with_mark (110 ∷ 98 ∷ 115 ∷ 112 ∷ 59 ∷ []) t) 0xA0 5 _ r refl
+    (λ e. named_by (begins_with_mark (110 ∷ 98 ∷ 104 ∷ 121 ∷ 59 ∷ []) t) 0x2011 5 _ r refl
+    (λ e. named_by (begins_with_mark (122 ∷ 119 ∷ 115 ∷ 112 ∷ 59 ∷ []) t) 0x200B 5 _ r refl
+    (λ e. named_by (begins_with_mark (119 ∷ 106 ∷ 59 ∷ []) t) 0x2060 3 _ r refl (λ e. by_number_scalar t r e) e) e) e)
     e
 
 reference_scalar : (t : List ℕ) (r : ℕ × ℕ) → reference t ≡ Some r → IsScalar r.0
 reference_scalar t r e =
-    named_by (begins (108 ∷ 116 ∷ 59 ∷ []) t) 60 3 _ r refl
-    (λ e. named_by (begins (103 ∷ 116 ∷ 59 ∷ []) t) 62 3 _ r refl
-    (λ e. named_by (begins (97 ∷ 109 ∷ 112 ∷ 59 ∷ []) t) 38 4 _ r refl
-    (λ e. named_by (begins (113 ∷ 117 ∷ 111 ∷ 116 ∷ 59 ∷ []) t) 34 5 _ r refl
-    (λ e. named_by (begins (97 ∷ 112 ∷ 111 ∷ 115 ∷ 59 ∷ []) t) 39 5 _ r refl (λ e. by_name_scalar t r e) e) e) e) e)
+    named_by (begins_with_mark (108 ∷ 116 ∷ 59 ∷ []) t) 60 3 _ r refl
+    (λ e. named_by (begins_with_mark (103 ∷ 116 ∷ 59 ∷ []) t) 62 3 _ r refl
+    (λ e. named_by (begins_with_mark (97 ∷ 109 ∷ 112 ∷ 59 ∷ []) t) 38 4 _ r refl
+    (λ e. named_by (begins_with_mark (113 ∷ 117 ∷ 111 ∷ 116 ∷ 59 ∷ []) t) 34 5 _ r refl
+    (λ e. named_by (begins_with_mark (97 ∷ 112 ∷ 111 ∷ 115 ∷ 59 ∷ []) t) 39 5 _ r refl (λ e. by_name_scalar t r e) e) e) e) e)
     e
 
 -- ---- XML: pieces
@@ -223,7 +223,7 @@ abbrev IsFair : ℕ → List ℕ → Piece → Type 0
 IsFair at t piece = AreOf (piece_content piece.kind at (take piece.more t))
 
 fair_markup : (at : ℕ) (t : List ℕ) (piece : Piece) → Are t → markup at t ≡ Ok piece → IsFair at t piece
-fair_markup at t piece h e = by (begins (33 ∷ 45 ∷ 45 ∷ []) t) (begins (33 ∷ 91 ∷ 67 ∷ 68 ∷ 65 ∷ 84 ∷ 65 ∷ 91 ∷ []) t) e
+fair_markup at t piece h e = by (begins_with_mark (33 ∷ 45 ∷ 45 ∷ []) t) (begins_with_mark (33 ∷ 91 ∷ 67 ∷ 68 ∷ 65 ∷ 84 ∷ 65 ∷ 91 ∷ []) t) e
   where
     made : (kind : Kind) (fault : XmlFault) (o : Option ℕ) (front : ℕ) → ((n : ℕ) → IsFair at t (record { kind = kind; more = n })) → piece_of kind fault o front ≡ Ok piece → IsFair at t piece
     made kind fault None front all e = absurd (cc (e))
@@ -261,7 +261,7 @@ IsOpened None = Unit {0}
 IsOpened (Some opened) = AreOf opened.1
 
 abbrev IsStep : Option Opened × List SourcedBlock → Type 0
-IsStep next = AreOf (grammar_of next.1) × IsOpened next.0
+IsStep next = AreOf (gathered_grammar next.1) × IsOpened next.0
 
 steps : (state : Option Opened) (kind : Kind) (at : ℕ) (t : List ℕ) → IsOpened state → AreOf (piece_content kind at t) → IsStep (behind_piece state kind at t)
 steps None kind at t h k = by (opened_by kind at t)
@@ -269,25 +269,25 @@ steps None kind at t h k = by (opened_by kind at t)
     by : (o : Option Begun) → IsStep (option_map (λ (o : Begun). (o, [])) o, [])
     by None = (tt, tt)
     by (Some o) = (tt, tt)
-steps (Some opened) kind at t h k = by (ends (opened.0).element kind t)
+steps (Some opened) kind at t h k = by (closes_element (opened.0).element kind t)
   where
     by : (b : Bool) → IsStep (if b then (None, record { content = opened.1; end = at } ∷ []) else (Some (opened.0, opened.1 ++ piece_content kind at t), []))
     by true = (are_one (record { content = opened.1; end = at }) h, tt)
     by false = (tt, both (λ (c : Sourced). IsScalar c.0) opened.1 (piece_content kind at t) h k)
 
-are_ended_at : (state : Option Opened) (at : ℕ) → IsOpened state → AreOf (grammar_of (ended_at state at))
+are_ended_at : (state : Option Opened) (at : ℕ) → IsOpened state → AreOf (gathered_grammar (ended_at state at))
 are_ended_at None at h = tt
 are_ended_at (Some opened) at h = are_one (record { content = opened.1; end = at }) h
 
-elements : (state : Option Opened) (read at : ℕ) (t : List ℕ) → IsOpened state → Are t → AreOf (grammar_of (element_front state read at t).blocks)
+elements : (state : Option Opened) (read at : ℕ) (t : List ℕ) → IsOpened state → Are t → AreOf (gathered_grammar (element_front state read at t).blocks)
 unfolding element_front
 elements None read at [] h k = tt
 elements (Some opened) read at [] h k = tt
 elements state (suc read) at (c ∷ t) h k = elements state read (suc at) t h k.1
 elements state zero at (c ∷ t) h k = by (λ s read g. elements s read (suc at) t g k.1) (piece_at (is_some state) at c t) refl
   where
-    by : ((s : Option Opened) (read : ℕ) → IsOpened s → AreOf (grammar_of (element_front s read (suc at) t).blocks)) → (r : Result Piece XmlFault) → piece_at (is_some state) at c t ≡ r
-        → AreOf (grammar_of (from_piece_on state at r (λ piece.
+    by : ((s : Option Opened) (read : ℕ) → IsOpened s → AreOf (gathered_grammar (element_front s read (suc at) t).blocks)) → (r : Result Piece XmlFault) → piece_at (is_some state) at c t ≡ r
+        → AreOf (gathered_grammar (from_piece_on state at r (λ piece.
         put_before (behind_piece state piece.kind at (take piece.more t)).1 (element_front (behind_piece state piece.kind at (take piece.more t)).0 piece.more (suc at) t))).blocks)
     by all (Err fault) is = are_ended_at state at h
     by all (Ok piece) is =

@@ -3,9 +3,9 @@
 use Rattle.std.specs.Prelude.{ℕ, Bool, not, ◌&&◌, bytes_eq, if◌then◌else◌, List, Option, None, Some, is_some}
 use Rattle.ls_text.specs.declared.position.Encoding.{Encoding}
 use Rattle.ls_text.specs.declared.position.Encoding.TheVariants as encoding
-use Rattle.origins.specs.Origins.{Sourced, characters, grammar_of}
+use Rattle.origins.specs.Origins.{Sourced, characters, gathered_grammar}
 use Rattle.markdown_blocks.specs.Fences.{markdown_blocks}
-use Rattle.xml_blocks.specs.Xml.{first_fault, front_blocks}
+use Rattle.xml_blocks.specs.Xml.{first_xml_fault, front_blocks}
 use Rattle.xml_blocks.specs.declared.fault.XmlFault.{XmlFault}
 use Rattle.draft_grammars.specs.declared.format.Format.{Format}
 use Rattle.draft_grammars.specs.declared.format.Format.TheVariants.{Markdown, Xml}
@@ -25,8 +25,8 @@ pub record Contents : Type 0 where
 
 -- The grammar is that of all blocks of ABNF. Those in XML are read up to the first fault.
 abbrev pub contents_in : Format → List ℕ → Contents
-contents_in Markdown draft = record { grammar = grammar_of (markdown_blocks draft); fault = None }
-contents_in Xml draft = record { grammar = grammar_of (front_blocks draft); fault = first_fault draft }
+contents_in Markdown draft = record { grammar = gathered_grammar (markdown_blocks draft); fault = None }
+contents_in Xml draft = record { grammar = gathered_grammar (front_blocks draft); fault = first_xml_fault draft }
 
 -- the grammar of a draft
 abbrev pub grammar_in : Format → List ℕ → List Sourced

@@ -8,7 +8,7 @@ use Rattle.ls_text.specs.declared.position.Encoding.TheVariants.{Utf32}
 use Rattle.ls_text.specs.declared.position.Position.{Position}
 use Rattle.origins.specs.Origins.{characters, is_blank_char}
 use Rattle.draft_grammars.specs.Drafts.{contents_in, has_contents}
-use Rattle.draft_grammars.specs.Places.{Mapped, drafted, empty_range, margin, outward, place_of}
+use Rattle.draft_grammars.specs.Places.{Mapped, drafted, empty_range, margin_before, outward, grammar_place}
 use Rattle.draft_grammars.specs.Renames.{written}
 use Rattle.draft_grammars.specs.declared.format.Format.{Format}
 use Rattle.draft_grammars.specs.declared.insertion.Inserted.{Inserted}
@@ -44,7 +44,7 @@ is_margin_char c = is_blank_char c || c == 62
 
 -- only such characters stand before an offset of the draft in its line, and so no markup
 abbrev pub has_plain_margin : List ℕ → ℕ → Bool
-has_plain_margin draft offset = list_all is_margin_char (margin draft offset)
+has_plain_margin draft offset = list_all is_margin_char (margin_before draft offset)
 
 -- What is inserted in the draft for these lines, with LF, at the start of a line of the grammar: they come behind the margin of the line
 -- that they push down, with its line end, and bring its margin. They are inserted only where that margin has no markup, the grammar of the
@@ -52,10 +52,10 @@ has_plain_margin draft offset = list_all is_margin_char (margin draft offset)
 -- have `<` or `&` outside of a CDATA section.
 abbrev pub insertion_in : Format → Mapped → Position → List ℕ → Option Inserted
 insertion_in format of at lines =
-    let offset = outward of (place_of of at) in
+    let offset = outward of (grammar_place of at) in
     let own = with_end_at of.draft offset lines in
     let there = drafted of offset in
-    let text = own ++ encode_utf8_all (margin of.draft offset) in
+    let text = own ++ encode_utf8_all (margin_before of.draft offset) in
     if has_plain_margin of.draft offset && are_alike format (is_some of.fault) (written of.encoding of.draft text (empty_range there ∷ [])) (written Utf32 (characters of.grammar) own (empty_range at ∷ []))
     then Some (record { position = there; text = text })
     else None

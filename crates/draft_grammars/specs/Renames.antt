@@ -33,10 +33,10 @@ draft_rename_fault format of ranges new =
     else split_fault format (written of.encoding of.draft new (map (outward_range of) ranges)) (written Utf32 (characters of.grammar) new ranges)
 
 -- ranges, unless there is a fault
-abbrev pub unless_fault : Option DraftRenameFault → List Range → Result (List Range) DraftRenameFault
-unless_fault (Some fault) ranges = Err fault
-unless_fault None ranges = Ok ranges
+abbrev pub ranges_unless : Option DraftRenameFault → List Range → Result (List Range) DraftRenameFault
+ranges_unless (Some fault) ranges = Err fault
+ranges_unless None ranges = Ok ranges
 
 -- the ranges of the draft from which these ranges of its grammar come, if a new text is granted there
 abbrev pub renamed_in : Format → Mapped → List Range → List ℕ → Result (List Range) DraftRenameFault
-renamed_in format of ranges new = unless_fault (draft_rename_fault format of ranges new) (map (outward_range of) ranges)
+renamed_in format of ranges new = ranges_unless (draft_rename_fault format of ranges new) (map (outward_range of) ranges)

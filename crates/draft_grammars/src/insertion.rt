@@ -4,7 +4,7 @@ ghost use Rattle.std.specs.Prelude.{◌≡◌, ◌++◌, ◌∷◌, [], encode_u
 ghost use Rattle.std.specs.List.{list_all};
 ghost use Rattle.std.specs.Str.{chars};
 ghost use Rattle.draft_grammars.specs.Insertions as spec;
-ghost use Rattle.draft_grammars.specs.Places.{margin, outward, place_of};
+ghost use Rattle.draft_grammars.specs.Places.{margin_before, outward, grammar_place};
 
 use crate::format::Format;
 use crate::places::SourceMap;
@@ -87,7 +87,7 @@ fn with_end_at(
 
 // A text, and behind it what stands in the draft before a position of the grammar, in its line.
 fn with_margin(places: &SourceMap<'_>, at: Position, text: &Text) -> Result<Text, AllocError>
-    ensures { IfOk result (λ made. made ≡ text.now ++ encode_utf8_all (margin places.now.draft (outward places.now (place_of places.now at)))) }
+    ensures { IfOk result (λ made. made ≡ text.now ++ encode_utf8_all (margin_before places.now.draft (outward places.now (grammar_place places.now at)))) }
 {
     let mut made = text.copy()?.into_string();
     places.push_margin(&mut made, at)?;

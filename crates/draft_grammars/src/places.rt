@@ -142,7 +142,7 @@ impl<'d> SourceMap<'d> {
 
     // The place behind a character that ends at an offset of the draft.
     fn ended_at(&self, offset: usize) -> Option<usize>
-        ensures { result ≡ spec.ended_at self.now.grammar offset }
+        ensures { result ≡ spec.place_ended_at self.now.grammar offset }
     {
         if offset == 0 {
             return None;
@@ -236,7 +236,7 @@ impl<'d> SourceMap<'d> {
 
     // The place in the grammar of a position there.
     fn place_of(&self, at: Position) -> usize
-        ensures value { result ≡ spec.place_of self.now at }
+        ensures value { result ≡ spec.grammar_place self.now at }
         ensures small { result < 2 ^ 63 }
     {
         let text: &Snapshot = self.grammar.text();
@@ -252,7 +252,7 @@ impl<'d> SourceMap<'d> {
 
     // The offset in the draft of a position in the grammar.
     pub(crate) fn outward_offset(&self, at: Position) -> usize
-        ensures { result ≡ spec.outward self.now (spec.place_of self.now at) }
+        ensures { result ≡ spec.outward self.now (spec.grammar_place self.now at) }
     {
         self.outward(self.place_of(at))
     }
@@ -291,7 +291,7 @@ impl<'d> SourceMap<'d> {
     ///
     /// Where an allocation is refused.
     pub fn push_margin(&self, to: &mut String, at: Position) -> Result<(), AllocError>
-        ensures { OnOk result (string_bytes to.new ≡ string_bytes to.old ++ encode_utf8_all (spec.margin self.now.draft (spec.outward self.now (spec.place_of self.now at)))) }
+        ensures { OnOk result (string_bytes to.new ≡ string_bytes to.old ++ encode_utf8_all (spec.margin_before self.now.draft (spec.outward self.now (spec.grammar_place self.now at)))) }
     {
         let offset = self.outward_offset(at);
         let at = self.draft.position_of(offset, Encoding::Utf32);

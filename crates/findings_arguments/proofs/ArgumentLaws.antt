@@ -5,16 +5,16 @@ use Rattle.std.proofs.lemmas.List.Elements.{All-head, All-tail}
 use Rattle.std.proofs.lemmas.List.Folds.{fold_stays}
 use Rattle.findings_arguments.specs.declared.arguments.Arguments.{Arguments}
 use Rattle.findings_arguments.specs.declared.arguments.Request.TheVariants as r
-use Rattle.findings_arguments.specs.declared.step.Stage.TheVariants as stage
+use Rattle.findings_arguments.specs.declared.step.Expected.TheVariants as stage
 use Rattle.findings_arguments.specs.declared.step.Step.TheVariants.{Ends, Goes}
 use Rattle.findings_arguments.specs.declared.word.Word.TheVariants as w
-use Rattle.findings_arguments.specs.Arguments.{file_step, first_step, further, nothing_told, request_of, result_of, word_of}
+use Rattle.findings_arguments.specs.Arguments.{file_step, first_step, further, nothing_told, request_of, request_of_step, argument_word}
 
 pub help_first : (words : List (List ℕ)) → request_of (codes "--help" ∷ words) ≡ Ok r.Help
-help_first words = ap result_of (fold_stays further (Ends r.Help) (λ word. refl) words)
+help_first words = ap request_of_step (fold_stays further (Ends r.Help) (λ word. refl) words)
 
 abbrev IsFile : List ℕ → Type 0
-IsFile file = word_of file ≡ w.File
+IsFile file = argument_word file ≡ w.File
 
 -- files behind files are named too
 files_on : (told : Arguments) (files : List (List ℕ)) → All IsFile files
@@ -28,6 +28,6 @@ files_on told (f ∷ files) all =
 pub files_alone : (files : List (List ℕ)) → files ≢ [] → All IsFile files → request_of files ≡ Ok (r.Print (record nothing_told { files = files }))
 files_alone [] some all = absurd (some refl)
 files_alone (f ∷ files) some all =
-    ap result_of
+    ap request_of_step
     ((λ i. fold further (first_step (All-head IsFile f files all i) nothing_told f) files)
     ∙ files_on (record nothing_told { files = f ∷ [] }) files (All-tail IsFile f files all))

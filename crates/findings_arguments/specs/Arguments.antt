@@ -13,8 +13,8 @@ use Rattle.findings_arguments.specs.declared.arguments.Request.{Request}
 use Rattle.findings_arguments.specs.declared.arguments.Request.TheVariants as r
 use Rattle.findings_arguments.specs.declared.word.Word.{Word}
 use Rattle.findings_arguments.specs.declared.word.Word.TheVariants as w
-use Rattle.findings_arguments.specs.declared.step.Stage.{Stage}
-use Rattle.findings_arguments.specs.declared.step.Stage.TheVariants as stage
+use Rattle.findings_arguments.specs.declared.step.Expected.{Expected}
+use Rattle.findings_arguments.specs.declared.step.Expected.TheVariants as stage
 use Rattle.findings_arguments.specs.declared.step.Step.{Step}
 use Rattle.findings_arguments.specs.declared.step.Step.TheVariants.{Goes, Ends, Wrong}
 
@@ -38,21 +38,21 @@ else_file false None = w.File
 
 -- which option an argument is by itself; another one that begins with a hyphen, but for the hyphen alone, is an unknown
 -- option, and the rest are files
-abbrev pub word_of : List ℕ → Word
-word_of word = else_file (is_option word) (option_named word)
+abbrev pub argument_word : List ℕ → Word
+argument_word word = else_file (is_option word) (option_named word)
 
 -- what is asked for where no argument says anything: the findings of no files
 abbrev pub nothing_told : Arguments
 nothing_told = record { asked = a.Findings; format = None; with = []; files = [] }
 
 -- what was said so far, with one more file
-abbrev pub file : Stage → Arguments → List ℕ → Step
+abbrev pub file : Expected → Arguments → List ℕ → Step
 file next told word = Goes next (record told { files = told.files ++ word ∷ [] })
 
 -- an option that says what is asked of the files: one of these stands at most
-abbrev pub asks : Asked → Asked → Arguments → Step
-asks asked a.Findings told = Goes stage.Options (record told { asked = asked })
-asks asked _ told = Wrong
+abbrev pub asks_for : Asked → Asked → Arguments → Step
+asks_for asked a.Findings told = Goes stage.Options (record told { asked = asked })
+asks_for asked _ told = Wrong
 
 -- `--format`, which stands once at most
 abbrev pub awaits_format : Option Format → Arguments → Step
@@ -61,9 +61,9 @@ awaits_format (Some format) told = Wrong
 
 -- an argument that stands where an option may stand
 abbrev pub first_step : Word → Arguments → List ℕ → Step
-first_step w.Strict told word = asks a.StrictFindings told.asked told
-first_step w.Rules told word = asks a.Rules told.asked told
-first_step w.Grammar told word = asks a.Grammar told.asked told
+first_step w.Strict told word = asks_for a.StrictFindings told.asked told
+first_step w.Rules told word = asks_for a.Rules told.asked told
+first_step w.Grammar told word = asks_for a.Grammar told.asked told
 first_step w.Format told word = awaits_format told.format told
 first_step w.With told word = Goes stage.With told
 first_step w.Help told word = Ends r.Help
@@ -89,17 +89,17 @@ file_step _ told word = Wrong
 
 -- what an argument adds to what was said before it, by what may stand there: an option or a file, what stands behind
 -- `--format` or `--with`, a file behind files, or anything behind `--`
-abbrev pub next_step : Stage → Arguments → List ℕ → Step
-next_step stage.Options told word = first_step (word_of word) told word
+abbrev pub next_step : Expected → Arguments → List ℕ → Step
+next_step stage.Options told word = first_step (argument_word word) told word
 next_step stage.Format told word = format_step (format_named word) told
-next_step stage.With told word = with_step (word_of word) told word
-next_step stage.Files told word = file_step (word_of word) told word
+next_step stage.With told word = with_step (argument_word word) told word
+next_step stage.Files told word = file_step (argument_word word) told word
 next_step stage.Rest told word = file stage.Rest told word
 
 -- a grammar is printed as it stands in its file, and so with no others
-abbrev pub fits : Asked → List (List ℕ) → Bool
-fits a.Grammar (other ∷ others) = false
-fits _ others = true
+abbrev pub fits_files : Asked → List (List ℕ) → Bool
+fits_files a.Grammar (other ∷ others) = false
+fits_files _ others = true
 
 -- one file at least is named
 abbrev pub names_file : List (List ℕ) → Bool
@@ -108,10 +108,10 @@ names_file (file ∷ files) = true
 
 -- What is asked for where no argument is left: there must be a file, and what stands behind `--format` or `--with`; and a
 -- grammar is printed with no others.
-abbrev pub ended : Stage → Arguments → Result Request Ending
-ended stage.Format told = Err Usage
-ended stage.With told = Err Usage
-ended _ told = if names_file told.files && fits told.asked told.with then Ok (r.Print told) else Err Usage
+abbrev pub request_at_end : Expected → Arguments → Result Request Ending
+request_at_end stage.Format told = Err Usage
+request_at_end stage.With told = Err Usage
+request_at_end _ told = if names_file told.files && fits_files told.asked told.with then Ok (r.Print told) else Err Usage
 
 -- one argument more; behind what ends the reading, or is wrong, nothing counts
 abbrev pub further : Step → List ℕ → Step
@@ -120,10 +120,10 @@ further (Ends request) word = Ends request
 further Wrong word = Wrong
 
 -- what is asked for where the reading is so far: what is wrong is Usage
-abbrev pub result_of : Step → Result Request Ending
-result_of (Goes stage told) = ended stage told
-result_of (Ends request) = Ok request
-result_of Wrong = Err Usage
+abbrev pub request_of_step : Step → Result Request Ending
+request_of_step (Goes stage told) = request_at_end stage told
+request_of_step (Ends request) = Ok request
+request_of_step Wrong = Err Usage
 
 -- where the reading is behind these arguments
 abbrev pub read : List (List ℕ) → Step
@@ -132,4 +132,4 @@ read words = fold further (Goes stage.Options nothing_told) words
 -- What the arguments ask for: help, the version, what is asked of files, or Usage. That comes where an argument is wrong,
 -- nothing stands behind `--format` or `--with`, no file is named, or a grammar is to be printed with others.
 abbrev pub request_of : List (List ℕ) → Result Request Ending
-request_of words = result_of (read words)
+request_of words = request_of_step (read words)

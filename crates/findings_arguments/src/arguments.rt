@@ -3,7 +3,7 @@
 ghost use Rattle.std.specs.Prelude.{◌≡◌, ◌⊎◌, Err, IfErr, IfOk, Ok};
 ghost use Rattle.findings_arguments.specs.Arguments as spec;
 
-use crate::step::{Stage, Step, further};
+use crate::step::{Expected, Step, further};
 use findings_files::{Ending, Format};
 use ls_lists::{List, Text};
 use std::alloc::{AllocError, Global};
@@ -59,7 +59,7 @@ fn nothing_told(alloc: Global) -> Arguments
 
 /// Whether what is asked for goes with other files, whose names are known.
 fn fits(asked: Asked, with: &List<Text>) -> bool
-    ensures { result ≡ spec.fits asked with.now }
+    ensures { result ≡ spec.fits_files asked with.now }
 {
     match asked {
         Asked::Grammar => with.is_empty(),
@@ -68,12 +68,12 @@ fn fits(asked: Asked, with: &List<Text>) -> bool
 }
 
 /// What is asked for where no argument is left.
-fn ended(stage: Stage, told: Arguments) -> Result<Request, Ending>
-    ensures { result ≡ spec.ended stage told }
+fn ended(stage: Expected, told: Arguments) -> Result<Request, Ending>
+    ensures { result ≡ spec.request_at_end stage told }
 {
     match stage {
-        Stage::Format | Stage::With => Err(Ending::Usage),
-        Stage::Options | Stage::Files | Stage::Rest => {
+        Expected::Format | Expected::With => Err(Ending::Usage),
+        Expected::Options | Expected::Files | Expected::Rest => {
             if told.files.is_empty() || !fits(told.asked, &told.with) {
                 return Err(Ending::Usage);
             }
@@ -83,7 +83,7 @@ fn ended(stage: Stage, told: Arguments) -> Result<Request, Ending>
 }
 
 fn result_of(step: Step) -> Result<Request, Ending>
-    ensures { result ≡ spec.result_of step }
+    ensures { result ≡ spec.request_of_step step }
 {
     match step {
         Step::Goes(stage, told) => ended(stage, told),
@@ -96,7 +96,7 @@ fn result_of(step: Step) -> Result<Request, Ending>
 fn read(alloc: Global, words: &[Text]) -> Result<Step, AllocError>
     ensures { IfOk result (λ step. step ≡ spec.read words.now) }
 {
-    let mut step = Step::Goes(Stage::Options, nothing_told(alloc));
+    let mut step = Step::Goes(Expected::Options, nothing_told(alloc));
     for word in words {
         step = further(alloc, step, word.as_str())?;
     }

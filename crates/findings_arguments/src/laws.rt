@@ -1,7 +1,7 @@
 //! Laws of arguments. The functions do nothing.
 
 ghost use Rattle.std.specs.Prelude.{◌≡◌, ◌≢◌, [], ◌∷◌, ◌++◌, All, List, Ok, ℕ, codes};
-ghost use Rattle.findings_arguments.specs.Arguments.{nothing_told, request_of, word_of};
+ghost use Rattle.findings_arguments.specs.Arguments.{nothing_told, request_of, argument_word};
 ghost use Rattle.findings_arguments.specs.declared.arguments.Request.TheVariants as r;
 ghost use Rattle.findings_arguments.specs.declared.word.Word.TheVariants as w;
 
@@ -12,6 +12,6 @@ pub fn help_comes_first()
 
 /// Files with no option ahead of them are asked for their findings, one file or more.
 pub fn files_alone_ask_for_findings()
-    ensures { (files : List (List ℕ)) → files ≢ [] → All (λ file. word_of file ≡ w.File) files
+    ensures { (files : List (List ℕ)) → files ≢ [] → All (λ file. argument_word file ≡ w.File) files
         → request_of files ≡ Ok (r.Print (record nothing_told { files = files })) }
 {}

@@ -12,7 +12,7 @@ use std::alloc::{AllocError, Global};
 
 /// What may stand next.
 #[derive(Clone, Copy, Debug, Drop, PartialEq, Eq)]
-pub(crate) enum Stage {
+pub(crate) enum Expected {
     /// An option, or a file.
     Options,
     /// The name of a format.
@@ -29,7 +29,7 @@ pub(crate) enum Stage {
 #[derive(Drop)]
 pub(crate) enum Step {
     /// It goes on, and this was said.
-    Goes(Stage, Arguments),
+    Goes(Expected, Arguments),
     /// What follows doesn't count.
     Ends(Request),
     Wrong,
@@ -46,10 +46,10 @@ fn and_file(alloc: Global, files: List<Text>, file: &str) -> Result<List<Text>, 
 
 /// An option that says what is asked of the files: one of these stands at most.
 fn asks(asked: Asked, told: Arguments) -> Step
-    ensures { result ≡ spec.asks asked told.asked told }
+    ensures { result ≡ spec.asks_for asked told.asked told }
 {
     match told.asked {
-        Asked::Findings => Step::Goes(Stage::Options, Arguments { asked, ..told }),
+        Asked::Findings => Step::Goes(Expected::Options, Arguments { asked, ..told }),
         Asked::StrictFindings | Asked::Rules | Asked::Grammar => Step::Wrong,
     }
 }
@@ -59,13 +59,13 @@ fn awaits_format(told: Arguments) -> Step
     ensures { result ≡ spec.awaits_format told.format told }
 {
     match told.format {
-        None => Step::Goes(Stage::Format, told),
+        None => Step::Goes(Expected::Format, told),
         Some(_) => Step::Wrong,
     }
 }
 
 /// A file that is named.
-fn file(alloc: Global, stage: Stage, told: Arguments, word: &str) -> Result<Step, AllocError>
+fn file(alloc: Global, stage: Expected, told: Arguments, word: &str) -> Result<Step, AllocError>
     ensures { IfOk result (λ step. step ≡ spec.file stage told word.now) }
 {
     let files = and_file(alloc, told.files, word)?;
@@ -74,19 +74,19 @@ fn file(alloc: Global, stage: Stage, told: Arguments, word: &str) -> Result<Step
 
 /// An argument that stands where an option may stand.
 fn first_step(alloc: Global, told: Arguments, word: &str) -> Result<Step, AllocError>
-    ensures { IfOk result (λ step. step ≡ spec.first_step (spec.word_of word.now) told word.now) }
+    ensures { IfOk result (λ step. step ≡ spec.first_step (spec.argument_word word.now) told word.now) }
 {
     match word_of(word) {
         Word::Strict => Ok(asks(Asked::StrictFindings, told)),
         Word::Rules => Ok(asks(Asked::Rules, told)),
         Word::Grammar => Ok(asks(Asked::Grammar, told)),
         Word::Format => Ok(awaits_format(told)),
-        Word::With => Ok(Step::Goes(Stage::With, told)),
+        Word::With => Ok(Step::Goes(Expected::With, told)),
         Word::Help => Ok(Step::Ends(Request::Help)),
         Word::Version => Ok(Step::Ends(Request::Version)),
-        Word::End => Ok(Step::Goes(Stage::Rest, told)),
+        Word::End => Ok(Step::Goes(Expected::Rest, told)),
         Word::Unknown => Ok(Step::Wrong),
-        Word::File => file(alloc, Stage::Files, told, word),
+        Word::File => file(alloc, Expected::Files, told, word),
     }
 }
 
@@ -96,7 +96,7 @@ fn format_step(told: Arguments, name: &str) -> Step
 {
     match Format::named(name) {
         Some(format) => Step::Goes(
-            Stage::Options,
+            Expected::Options,
             Arguments {
                 format: Some(format),
                 ..told
@@ -108,35 +108,40 @@ fn format_step(told: Arguments, name: &str) -> Step
 
 /// The file behind `--with`.
 fn with_step(alloc: Global, told: Arguments, word: &str) -> Result<Step, AllocError>
-    ensures { IfOk result (λ step. step ≡ spec.with_step (spec.word_of word.now) told word.now) }
+    ensures { IfOk result (λ step. step ≡ spec.with_step (spec.argument_word word.now) told word.now) }
 {
     if word_of(word) != Word::File {
         return Ok(Step::Wrong);
     }
     let with = and_file(alloc, told.with, word)?;
-    Ok(Step::Goes(Stage::Options, Arguments { with, ..told }))
+    Ok(Step::Goes(Expected::Options, Arguments { with, ..told }))
 }
 
 /// An argument behind a file: no option stands there.
 fn file_step(alloc: Global, told: Arguments, word: &str) -> Result<Step, AllocError>
-    ensures { IfOk result (λ step. step ≡ spec.file_step (spec.word_of word.now) told word.now) }
+    ensures { IfOk result (λ step. step ≡ spec.file_step (spec.argument_word word.now) told word.now) }
 {
     if word_of(word) != Word::File {
         return Ok(Step::Wrong);
     }
-    file(alloc, Stage::Files, told, word)
+    file(alloc, Expected::Files, told, word)
 }
 
 /// What an argument adds to what was said before it.
-fn next_step(alloc: Global, stage: Stage, told: Arguments, word: &str) -> Result<Step, AllocError>
+fn next_step(
+    alloc: Global,
+    stage: Expected,
+    told: Arguments,
+    word: &str,
+) -> Result<Step, AllocError>
     ensures { IfOk result (λ step. step ≡ spec.next_step stage told word.now) }
 {
     match stage {
-        Stage::Options => first_step(alloc, told, word),
-        Stage::Format => Ok(format_step(told, word)),
-        Stage::With => with_step(alloc, told, word),
-        Stage::Files => file_step(alloc, told, word),
-        Stage::Rest => file(alloc, Stage::Rest, told, word),
+        Expected::Options => first_step(alloc, told, word),
+        Expected::Format => Ok(format_step(told, word)),
+        Expected::With => with_step(alloc, told, word),
+        Expected::Files => file_step(alloc, told, word),
+        Expected::Rest => file(alloc, Expected::Rest, told, word),
     }
 }
 

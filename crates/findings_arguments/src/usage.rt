@@ -28,7 +28,7 @@ fn options() -> &'static [&'static str]
 
 /// Appends a line.
 fn push_line(text: &mut String, line: &str) -> Result<(), AllocError>
-    ensures { OnOk result (string_bytes text.new ≡ spec.with_line (string_bytes text.old) line.now) }
+    ensures { OnOk result (string_bytes text.new ≡ spec.with_help_line (string_bytes text.old) line.now) }
 {
     text.push_str(line)?;
     text.push_str("\n")?;

@@ -49,7 +49,7 @@ fn option_named(word: &str) -> Option<Word>
 
 /// What an argument is by itself.
 pub(crate) fn word_of(word: &str) -> Word
-    ensures { result ≡ spec.word_of word.now }
+    ensures { result ≡ spec.argument_word word.now }
 {
     match option_named(word) {
         Some(option) => option,

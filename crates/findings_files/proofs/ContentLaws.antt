@@ -3,7 +3,7 @@ use Rattle.std.proofs.Common.{◌≡◌, ◌∙◌, ◌<◌, ◌^◌, ℕ, Bool,
 use Rattle.std.proofs.lemmas.List.{length-map}
 use Rattle.std.specs.Prelude.{All, Result, Ok, Err}
 use Rattle.std.proofs.lemmas.List.Elements.{All-head, All-tail}
-use Rattle.origins.specs.Origins.{Sourced, characters, grammar_of}
+use Rattle.origins.specs.Origins.{Sourced, characters, gathered_grammar}
 use Rattle.origins.specs.declared.unread.Aside.{Aside}
 use Rattle.origins.specs.declared.unread.Lack.{Lack}
 use Rattle.origins.specs.declared.unread.Lack.TheVariants.{BareFence, Elsewhere, Empty, Faulty, Untyped}
@@ -20,7 +20,7 @@ use Rattle.xml_blocks.specs.Xml.{grammar_behind, xml_blocks}
 use Rattle.findings_files.specs.declared.content.Content.{Content}
 use Rattle.findings_files.specs.declared.format.Format.{Format}
 use Rattle.findings_files.specs.declared.format.Format.TheVariants.{Abnf, Markdown, Text, Xml}
-use Rattle.findings_files.specs.Contents.{AreRulesAlone, AreSaid, HasSmallBlocks, IsContentIn, IsDraftContent, IsGrammarIn, IsSaid, LacksGrammar, is_empty, whole, with_others}
+use Rattle.findings_files.specs.Contents.{AreRulesAlone, AreRemarked, HasSmallBlocks, IsContentIn, IsDraftContent, IsGrammarIn, IsSaid, LacksGrammar, has_no_grammar, whole, with_others}
 use Rattle.findings_files.specs.Grammars.{HasSmallRuns}
 
 -- ---- one block more
@@ -29,8 +29,8 @@ with_more : (says : Bool) (unread : Unread) (others more : List Unread) → with
 with_more true unread others more = refl
 with_more false unread others more = refl
 
-pub said_more : (asides : List Aside) (a : Aside) (says : Bool) (unread : List Unread) → AreSaid asides unread → IsSaid a.unread.lack (characters a.text) says
-    → AreSaid (asides ++ a ∷ []) (unread ++ with_others says a.unread [])
+pub said_more : (asides : List Aside) (a : Aside) (says : Bool) (unread : List Unread) → AreRemarked asides unread → IsSaid a.unread.lack (characters a.text) says
+    → AreRemarked (asides ++ a ∷ []) (unread ++ with_others says a.unread [])
 said_more [] a says unread are is = (says, [], is, refl, ap (λ us. us ++ with_others says a.unread []) are)
 said_more (b ∷ asides) a says unread p is =
     let more = with_others says a.unread [] in
@@ -66,14 +66,14 @@ one_says Faulty text a b p q = p ∙ sym q
 abbrev IsSmall : Aside → Type 0
 IsSmall aside = length aside.text < 2 ^ 62
 
-some_said : (asides : List Aside) → All IsSmall asides → (unread : List Unread) × AreSaid asides unread
+some_said : (asides : List Aside) → All IsSmall asides → (unread : List Unread) × AreRemarked asides unread
 some_said [] small = ([], refl)
 some_said (a ∷ asides) small =
     let says = some_says a.unread.lack a.text (All-head IsSmall a asides small) in
     let others = some_said asides (All-tail IsSmall a asides small) in
     (with_others says.0 a.unread others.0, (says.0, others.0, says.1, others.1, refl))
 
-one_said : (asides : List Aside) (a b : List Unread) → AreSaid asides a → AreSaid asides b → a ≡ b
+one_said : (asides : List Aside) (a b : List Unread) → AreRemarked asides a → AreRemarked asides b → a ≡ b
 one_said [] a b p q = p ∙ sym q
 one_said (x ∷ xs) a b p q =
     p.4 ∙ ((λ i. with_others (one_says x.unread.lack (characters x.text) p.0 q.0 p.2 q.2 i) x.unread (one_said xs p.1 q.1 p.3 q.3 i)) ∙ sym q.4)
@@ -92,16 +92,16 @@ one_draft asides (Err fault) a b p q = p ∙ sym q
 
 pub some_content : (format : Format) (text : List ℕ) → HasSmallBlocks format text → (read : Result Content XmlFault) × IsContentIn format text read
 some_content Abnf text small = (Ok (record { grammar = whole text; unread = [] }), refl)
-some_content Markdown text small = some_draft (m.unread_blocks text) (Ok (grammar_of (markdown_blocks text))) small
-some_content Xml text small = some_draft (xml.unread_blocks text) (grammar_behind [] (xml_blocks text)) small
+some_content Markdown text small = some_draft (m.unread_blocks text) (Ok (gathered_grammar (markdown_blocks text))) small
+some_content Xml text small = some_draft (xml.unread_elements text) (grammar_behind [] (xml_blocks text)) small
 some_content Text text small =
     let found = some_found (published_runs text) small in
     (Ok (record { grammar = found.0.grammar; unread = found.0.unread }), (found.0, found.1, refl))
 
 pub one_content : (format : Format) (text : List ℕ) (a b : Result Content XmlFault) → IsContentIn format text a → IsContentIn format text b → a ≡ b
 one_content Abnf text a b p q = p ∙ sym q
-one_content Markdown text a b p q = one_draft (m.unread_blocks text) (Ok (grammar_of (markdown_blocks text))) a b p q
-one_content Xml text a b p q = one_draft (xml.unread_blocks text) (grammar_behind [] (xml_blocks text)) a b p q
+one_content Markdown text a b p q = one_draft (m.unread_blocks text) (Ok (gathered_grammar (markdown_blocks text))) a b p q
+one_content Xml text a b p q = one_draft (xml.unread_elements text) (grammar_behind [] (xml_blocks text)) a b p q
 one_content Text text a b p q =
     let same = one_found (published_runs text) p.0 q.0 p.1 q.1 in
     p.2 ∙ ((λ i. Ok (record { grammar = (same i).grammar; unread = (same i).unread })) ∙ sym q.2)
@@ -110,7 +110,7 @@ one_content Text text a b p q =
 
 pub some_grammar : (format : Format) (text : List ℕ) → HasSmallRuns format text → (read : Result (List Sourced) XmlFault) × IsGrammarIn format text read
 some_grammar Abnf text small = (Ok (whole text), refl)
-some_grammar Markdown text small = (Ok (grammar_of (markdown_blocks text)), refl)
+some_grammar Markdown text small = (Ok (gathered_grammar (markdown_blocks text)), refl)
 some_grammar Xml text small = (grammar_behind [] (xml_blocks text), refl)
 some_grammar Text text small =
     let found = some_found (published_runs text) small in
@@ -127,9 +127,9 @@ pub some_lacks : (format : Format) (text : List ℕ) (grammar : List Sourced) �
 some_lacks Abnf text grammar small =
     let counts = some_counts text small in
     (is_no_grammar counts.0, (counts.0, counts.1, refl))
-some_lacks Markdown text grammar small = (is_empty grammar, refl)
-some_lacks Xml text grammar small = (is_empty grammar, refl)
-some_lacks Text text grammar small = (is_empty grammar, refl)
+some_lacks Markdown text grammar small = (has_no_grammar grammar, refl)
+some_lacks Xml text grammar small = (has_no_grammar grammar, refl)
+some_lacks Text text grammar small = (has_no_grammar grammar, refl)
 
 pub one_lacks : (format : Format) (text : List ℕ) (grammar : List Sourced) (a b : Bool) → LacksGrammar format text grammar a → LacksGrammar format text grammar b → a ≡ b
 one_lacks Abnf text grammar a b p q = p.2 ∙ (ap is_no_grammar (one_counts text p.0 q.0 p.1 q.1) ∙ sym q.2)

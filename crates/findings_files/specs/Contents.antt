@@ -3,7 +3,7 @@ use Rattle.std.specs.Prelude.{◌≡◌, ◌⊎◌, ◌<◌, ◌^◌, ℕ, All, 
 use Rattle.text_files.specs.declared.file.FileFault.{FileFault}
 use Rattle.text_files.specs.declared.file.FileFault.TheVariants.{CannotRead, Memory, NotText}
 use Rattle.ls_text.specs.declared.fault.TextFault.TheVariants.{TooLarge}
-use Rattle.origins.specs.Origins.{Sourced, aligned, characters, from, grammar_of}
+use Rattle.origins.specs.Origins.{Sourced, aligned, characters, from, gathered_grammar}
 use Rattle.origins.specs.declared.unread.Aside.{Aside}
 use Rattle.origins.specs.declared.unread.Lack.{Lack}
 use Rattle.origins.specs.declared.unread.Lack.TheVariants.{BareFence, Untyped}
@@ -33,20 +33,20 @@ whole text = aligned (record { content = from 0 text; end = length text })
 -- file that is a grammar the whole text is one block.
 abbrev pub IsGrammarIn : Format → List ℕ → Result (List Sourced) XmlFault → Type 0
 IsGrammarIn Abnf text read = read ≡ Ok (whole text)
-IsGrammarIn Markdown text read = read ≡ Ok (grammar_of (markdown_blocks text))
+IsGrammarIn Markdown text read = read ≡ Ok (gathered_grammar (markdown_blocks text))
 IsGrammarIn Xml text read = read ≡ grammar_behind [] (xml_blocks text)
 IsGrammarIn Text text read = (found : Published) × p.IsPublished text found × (read ≡ Ok found.grammar)
 
 -- whether the grammar of a draft or a published text is empty: no block of it is one
-abbrev pub is_empty : List Sourced → Bool
-is_empty [] = true
-is_empty (c ∷ cs) = false
+abbrev pub has_no_grammar : List Sourced → Bool
+has_no_grammar [] = true
+has_no_grammar (c ∷ cs) = false
 
 -- Whether a file of this format, with this grammar, has none: a file that is a grammar by its blocks, any other where nothing is gathered
 -- from it.
 abbrev pub LacksGrammar : Format → List ℕ → List Sourced → Bool → Type 0
 LacksGrammar Abnf text grammar lacks = (counts : Counts) × AreCounted text counts × (lacks ≡ is_no_grammar counts)
-LacksGrammar _ text grammar lacks = lacks ≡ is_empty grammar
+LacksGrammar _ text grammar lacks = lacks ≡ has_no_grammar grammar
 
 -- ---- what can't be read
 
@@ -65,24 +65,24 @@ abbrev pub with_others : Bool → Unread → List Unread → List Unread
 with_others says unread others = if says then unread ∷ others else others
 
 -- This is said of these blocks, in their order.
-abbrev pub AreSaid : List Aside → List Unread → Type 0
-AreSaid [] unread = unread ≡ []
-AreSaid (a ∷ asides) unread =
-    (says : Bool) × (others : List Unread) × IsSaid a.unread.lack (characters a.text) says × AreSaid asides others × (unread ≡ with_others says a.unread others)
+abbrev pub AreRemarked : List Aside → List Unread → Type 0
+AreRemarked [] unread = unread ≡ []
+AreRemarked (a ∷ asides) unread =
+    (says : Bool) × (others : List Unread) × IsSaid a.unread.lack (characters a.text) says × AreRemarked asides others × (unread ≡ with_others says a.unread others)
 
 -- ---- the content
 
 -- This is read of a draft of whose blocks this may have to be said, and from which this is gathered.
 abbrev pub IsDraftContent : List Aside → Result (List Sourced) XmlFault → Result Content XmlFault → Type 0
-IsDraftContent asides (Ok grammar) read = (unread : List Unread) × AreSaid asides unread × (read ≡ Ok (record { grammar = grammar; unread = unread }))
+IsDraftContent asides (Ok grammar) read = (unread : List Unread) × AreRemarked asides unread × (read ≡ Ok (record { grammar = grammar; unread = unread }))
 IsDraftContent asides (Err fault) read = read ≡ Err fault
 
 -- This is read of a file of this format, or this is the fault of a draft in XML. There is one (`contents_exist`), and only one
 -- (`contents_are_unique`).
 abbrev pub IsContentIn : Format → List ℕ → Result Content XmlFault → Type 0
 IsContentIn Abnf text read = read ≡ Ok (record { grammar = whole text; unread = [] })
-IsContentIn Markdown text read = IsDraftContent (m.unread_blocks text) (Ok (grammar_of (markdown_blocks text))) read
-IsContentIn Xml text read = IsDraftContent (xml.unread_blocks text) (grammar_behind [] (xml_blocks text)) read
+IsContentIn Markdown text read = IsDraftContent (m.unread_blocks text) (Ok (gathered_grammar (markdown_blocks text))) read
+IsContentIn Xml text read = IsDraftContent (xml.unread_elements text) (grammar_behind [] (xml_blocks text)) read
 IsContentIn Text text read =
     (found : Published) × p.IsPublished text found × (read ≡ Ok (record { grammar = found.grammar; unread = found.unread }))
 
@@ -90,7 +90,7 @@ IsContentIn Text text read =
 abbrev pub HasSmallBlocks : Format → List ℕ → Type 0
 HasSmallBlocks Abnf text = Unit {0}
 HasSmallBlocks Markdown text = All (λ aside. length aside.text < 2 ^ 62) (m.unread_blocks text)
-HasSmallBlocks Xml text = All (λ aside. length aside.text < 2 ^ 62) (xml.unread_blocks text)
+HasSmallBlocks Xml text = All (λ aside. length aside.text < 2 ^ 62) (xml.unread_elements text)
 HasSmallBlocks Text text = All (λ run. length run.block < 2 ^ 62) (published_runs text)
 
 -- ---- refusals
@@ -114,5 +114,5 @@ AreRefused asides fault = (fault ≡ Memory) ⊎ ((aside : Aside) × Contains as
 abbrev pub IsNotRead : Format → List ℕ → FileFault → Type 0
 IsNotRead Abnf text fault = fault ≡ Memory
 IsNotRead Markdown text fault = AreRefused (m.unread_blocks text) fault
-IsNotRead Xml text fault = AreRefused (xml.unread_blocks text) fault
+IsNotRead Xml text fault = AreRefused (xml.unread_elements text) fault
 IsNotRead Text text fault = IsNotPublished text fault

@@ -30,11 +30,11 @@ outcome_without Xml = Warnings
 outcome_without Text = Errors
 
 -- the severity of a line by which a file went so
-abbrev pub severity_text : Outcome → List ℕ
-severity_text Clean = codes "warning"
-severity_text Warnings = codes "warning"
-severity_text Errors = codes "error"
-severity_text NotRead = codes "error"
+abbrev pub outcome_severity : Outcome → List ℕ
+outcome_severity Clean = codes "warning"
+outcome_severity Warnings = codes "warning"
+outcome_severity Errors = codes "error"
+outcome_severity NotRead = codes "error"
 
 -- what is said of a file without a grammar
 abbrev pub no_grammar_text : Format → List ℕ
@@ -46,7 +46,7 @@ no_grammar_text Text = codes "no grammar in this text"
 -- the line of a file without a grammar that went so: it stands at its front
 abbrev pub no_grammar_line : Format → Outcome → List ℕ → List ℕ
 no_grammar_line format outcome file =
-    file ++ codes ":1:1: " ++ severity_text outcome ++ codes ": " ++ no_grammar_text format ++ (codes " [no-grammar]" ++ 10 ∷ [])
+    file ++ codes ":1:1: " ++ outcome_severity outcome ++ codes ": " ++ no_grammar_text format ++ (codes " [no-grammar]" ++ 10 ∷ [])
 
 -- the lines of such a file, of which this can't be read
 abbrev pub no_grammar_lines : Format → Outcome → List ℕ → List ℕ → List Unread → List ℕ

@@ -15,8 +15,8 @@ use Rattle.findings_files.specs.declared.format.Format.TheVariants.{Abnf, Markdo
 
 -- what a file is written in, by the ending of its name: a draft in Markdown (`is_markdown`), one in RFCXML (`.xml`), a published text
 -- (`.txt`), or else a grammar
-abbrev pub format_of : List ℕ → Format
-format_of name =
+abbrev pub format_by_name : List ℕ → Format
+format_by_name name =
     if is_markdown name then Markdown
     else (if has_ending (codes ".xml") name then Xml else (if has_ending (codes ".txt") name then Text else Abnf))
 

@@ -24,7 +24,7 @@ use Rattle.findings_files.specs.declared.format.Format.TheVariants.{Abnf}
 use Rattle.findings_files.specs.Contents.{IsContentIn, IsGrammarIn, IsNotGathered, IsNotRead, LacksGrammar}
 use Rattle.findings_files.specs.Drafts.{ArePrintedDraftRules, IsPrintedDraft, IsPrintedWithout, outcome_without}
 use Rattle.findings_files.specs.Formats.{IsPrintedFault}
-use Rattle.findings_files.specs.Texts.{IsRefused, IsTextRefused}
+use Rattle.findings_files.specs.Texts.{RefusesPrint, IsTextRefused}
 
 -- ---- the files whose names are known
 
@@ -53,7 +53,7 @@ IsAdded format file text old new printed =
 
 -- Why the grammar of a file, of which this is read, isn't known: it is too large, its draft is at fault, or memory was refused.
 abbrev pub IsNotAddedBy : Result Content XmlFault → FileFault → Type 0
-IsNotAddedBy (Ok content) fault = IsRefused content.grammar fault
+IsNotAddedBy (Ok content) fault = RefusesPrint content.grammar fault
 IsNotAddedBy (Err found) NotText = Unit {0}
 IsNotAddedBy (Err found) Memory = Unit {0}
 IsNotAddedBy (Err found) CannotRead = ⊥
@@ -141,7 +141,7 @@ ArePrintedRulesWith known format file text printed =
 
 -- Why rules of others aren't joined to a grammar: it, or the joined one, is too large, or memory was refused.
 abbrev pub IsJoinRefused : List (List ℕ) → List Sourced → FileFault → Type 0
-IsJoinRefused known grammar fault = IsRefused grammar fault ⊎ ((text : List ℕ) × IsJoined (characters grammar) known text × IsTextRefused text fault)
+IsJoinRefused known grammar fault = RefusesPrint grammar fault ⊎ ((text : List ℕ) × IsJoined (characters grammar) known text × IsTextRefused text fault)
 
 -- The joined text is too large once its gaps are filled.
 abbrev pub IsFillingRefused : List (List ℕ) → List Sourced → FileFault → Type 0
@@ -151,7 +151,7 @@ IsFillingRefused known grammar fault =
 -- Why the rules of a file of this format with this grammar, to which others may be joined, aren't printed.
 abbrev pub AreRulesRefused : List (List ℕ) → Format → List Sourced → FileFault → Type 0
 AreRulesRefused [] Abnf grammar fault = fault ≡ Memory
-AreRulesRefused [] format grammar fault = IsRefused grammar fault
+AreRulesRefused [] format grammar fault = RefusesPrint grammar fault
 AreRulesRefused (k ∷ known) format grammar fault = IsJoinRefused (k ∷ known) grammar fault
 
 -- Why the findings of such a file aren't printed.

@@ -7,7 +7,7 @@ use Rattle.text_files.specs.declared.file.FileFault.TheVariants.{CannotRead, Mem
 use Rattle.origins.specs.Origins.{Sourced, characters}
 
 -- this text has more bytes than a text may have, 4,194,304
-pub record IsTooLarge (text : List ℕ) : Type 0 where
+pub record IsTextTooLarge (text : List ℕ) : Type 0 where
   pub bytes : List ℕ
   pub utf8 : IsUtf8 bytes
   pub are : chars bytes ≡ text
@@ -15,10 +15,10 @@ pub record IsTooLarge (text : List ℕ) : Type 0 where
 
 -- Why a text isn't made: it is too large, or memory was refused.
 abbrev pub IsTextRefused : List ℕ → FileFault → Type 0
-IsTextRefused text NotText = IsTooLarge text
+IsTextRefused text NotText = IsTextTooLarge text
 IsTextRefused text Memory = Unit {0}
 IsTextRefused text CannotRead = ⊥
 
 -- Why nothing is printed of a file with this grammar.
-abbrev pub IsRefused : List Sourced → FileFault → Type 0
-IsRefused grammar fault = IsTextRefused (characters grammar) fault
+abbrev pub RefusesPrint : List Sourced → FileFault → Type 0
+RefusesPrint grammar fault = IsTextRefused (characters grammar) fault

@@ -7,10 +7,10 @@ ghost use Rattle.rule_texts.specs.Rules.{AreCounted};
 ghost use Rattle.xml_blocks.specs.Unread as xml;
 ghost use Rattle.published_blocks.specs.Published.{IsPublished};
 ghost use Rattle.markdown_blocks.specs.Fences.{markdown_blocks};
-ghost use Rattle.origins.specs.Origins.{characters, grammar_of};
+ghost use Rattle.origins.specs.Origins.{characters, gathered_grammar};
 ghost use Rattle.xml_blocks.specs.Xml.{grammar_behind, xml_blocks};
 ghost use Rattle.findings_files.specs.Contents as spec;
-ghost use Rattle.findings_files.specs.Texts.{IsRefused, IsTextRefused};
+ghost use Rattle.findings_files.specs.Texts.{RefusesPrint, IsTextRefused};
 
 use crate::format::Format;
 use ls_lists::List;
@@ -47,7 +47,7 @@ pub(crate) fn snapshot_of(alloc: Global, text: String) -> Result<Snapshot, FileF
 /// The text of a grammar that was gathered.
 pub(crate) fn text_of(alloc: Global, grammar: &Gathered) -> Result<Snapshot, FileFault>
     ensures text { IfOk result (λ text. text ≡ characters grammar.now) }
-    ensures fault { IfErr result (λ fault. IsRefused grammar.now fault) }
+    ensures fault { IfErr result (λ fault. RefusesPrint grammar.now fault) }
 {
     match String::from_str(alloc, grammar.as_str()) {
         Ok(text) => snapshot_of(alloc, text),
@@ -80,7 +80,7 @@ fn file_grammar(alloc: Global, text: &Snapshot) -> Result<Gathered, FileFault>
 
 /// The grammar of a draft in Markdown.
 fn markdown_grammar(alloc: Global, draft: &Snapshot) -> Result<Gathered, FileFault>
-    ensures grammar { IfOk result (λ grammar. grammar ≡ grammar_of (markdown_blocks draft.now)) }
+    ensures grammar { IfOk result (λ grammar. grammar ≡ gathered_grammar (markdown_blocks draft.now)) }
     ensures fault { IfErr result (λ fault. fault ≡ FileFault.Memory) }
 {
     match gather_markdown(alloc, draft) {
@@ -166,7 +166,7 @@ pub(crate) fn counts_of(alloc: Global, text: &Snapshot) -> Result<Counts, FileFa
 /// Whether the text of a block is rules alone.
 fn are_rules_alone(alloc: Global, block: &Gathered) -> Result<bool, FileFault>
     ensures are { IfOk result (spec.AreRulesAlone (characters block.now)) }
-    ensures fault { IfErr result (IsRefused block.now) }
+    ensures fault { IfErr result (RefusesPrint block.now) }
 {
     let text = text_of(alloc, block)?;
     let counts = counts_of(alloc, &text)?;
@@ -176,7 +176,7 @@ fn are_rules_alone(alloc: Global, block: &Gathered) -> Result<bool, FileFault>
 /// Whether something is said of a block: that nothing marks it, only if it is rules alone.
 fn is_said(alloc: Global, aside: &Aside) -> Result<bool, FileFault>
     ensures says { IfOk result (spec.IsSaid aside.now.unread.lack (characters aside.now.text)) }
-    ensures fault { IfErr result (IsRefused aside.now.text) }
+    ensures fault { IfErr result (RefusesPrint aside.now.text) }
 {
     match aside.unread.lack {
         Lack::BareFence | Lack::Untyped => are_rules_alone(alloc, &aside.text),
@@ -197,7 +197,7 @@ fn put(said: &mut List<Unread>, unread: Unread) -> Result<(), FileFault>
 
 /// What is said of these blocks.
 fn said(alloc: Global, asides: &[Aside]) -> Result<List<Unread>, FileFault>
-    ensures said { IfOk result (spec.AreSaid asides.now) }
+    ensures said { IfOk result (spec.AreRemarked asides.now) }
     ensures fault { IfErr result (spec.AreRefused asides.now) }
 {
     let mut said = List::new(alloc);
@@ -222,7 +222,7 @@ fn markdown_asides(alloc: Global, draft: &Snapshot) -> Result<Vec<Aside>, FileFa
 
 /// The same of a draft in XML.
 fn xml_asides(alloc: Global, draft: &str) -> Result<Vec<Aside>, FileFault>
-    ensures asides { IfOk result (λ asides. asides.items ≡ xml.unread_blocks (chars draft.now)) }
+    ensures asides { IfOk result (λ asides. asides.items ≡ xml.unread_elements (chars draft.now)) }
     ensures fault { IfErr result (λ fault. fault ≡ FileFault.Memory) }
 {
     match xml_blocks::unread_blocks(alloc, draft) {
@@ -307,7 +307,7 @@ pub(crate) fn lacks_grammar(
 
 /// Whether nothing was gathered.
 pub(crate) fn is_empty(grammar: &Gathered) -> bool
-    ensures { result ≡ spec.is_empty grammar.now }
+    ensures { result ≡ spec.has_no_grammar grammar.now }
 {
     grammar.origin_of(0).is_none()
 }

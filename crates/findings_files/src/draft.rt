@@ -5,7 +5,7 @@ ghost use Rattle.draft_findings.specs.Ends.{block_ends};
 ghost use Rattle.findings_text.specs.Sources.{position_in_draft};
 ghost use Rattle.findings_text.specs.Unread.{asides_of};
 ghost use Rattle.findings_files.specs.Drafts as spec;
-ghost use Rattle.findings_files.specs.Texts.{IsRefused};
+ghost use Rattle.findings_files.specs.Texts.{RefusesPrint};
 
 use crate::content::{Content, text_of};
 use crate::format::Format;
@@ -44,7 +44,7 @@ impl Format {
 
 /// The severity of a line by which a file went so.
 fn severity_text(outcome: Outcome) -> &'static str
-    ensures { result.now ≡ spec.severity_text outcome }
+    ensures { result.now ≡ spec.outcome_severity outcome }
 {
     match outcome {
         Outcome::Clean | Outcome::Warnings => "warning",
@@ -140,7 +140,7 @@ pub(crate) fn print_draft(
     content: &Content,
 ) -> Result<Printed, FileFault>
     ensures printed { IfOk result (λ printed. spec.IsPrintedDraft file.now draft.now content.now.unread content.now.grammar printed) }
-    ensures fault { IfErr result (IsRefused content.now.grammar) }
+    ensures fault { IfErr result (RefusesPrint content.now.grammar) }
 {
     let text = text_of(alloc, &content.grammar)?;
     match print_text(alloc, file, draft, content, &text) {
@@ -162,7 +162,7 @@ pub(crate) fn print_draft_rules(
     grammar: &Gathered,
 ) -> Result<Text, FileFault>
     ensures printed { IfOk result (λ lines. spec.ArePrintedDraftRules file.now draft.now grammar.now lines) }
-    ensures fault { IfErr result (IsRefused grammar.now) }
+    ensures fault { IfErr result (RefusesPrint grammar.now) }
 {
     let text = text_of(alloc, grammar)?;
     let none = Repeats::none(alloc);

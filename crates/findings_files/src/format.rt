@@ -23,7 +23,7 @@ impl Format {
     /// those of drafts in Markdown, `.xml` that of drafts in RFCXML, `.txt` that of published texts, and all others are
     /// those of grammars.
     pub fn of_file(file: &str) -> Format
-        ensures { result ≡ spec.format_of file.now }
+        ensures { result ≡ spec.format_by_name file.now }
     {
         if is_markdown(file) {
             Format::Markdown

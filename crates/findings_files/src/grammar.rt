@@ -5,7 +5,7 @@ ghost use Rattle.origins.specs.Origins.{Sourced};
 ghost use Rattle.findings_files.specs.Contents.{IsGrammarIn, IsNotGathered};
 ghost use Rattle.findings_files.specs.Grammars as spec;
 ghost use Rattle.findings_files.specs.Known.{IsGrammarPrintRefused};
-ghost use Rattle.findings_files.specs.Texts.{IsRefused};
+ghost use Rattle.findings_files.specs.Texts.{RefusesPrint};
 
 use crate::content::{grammar_in, is_empty, text_of};
 use crate::draft::print_without;
@@ -41,7 +41,7 @@ fn print_gathered_grammar(
     grammar: &Gathered,
 ) -> Result<Printed, FileFault>
     ensures printed { IfOk result (λ printed. spec.IsPrintedGrammarBy format file.now text.now (Ok grammar.now) printed) }
-    ensures fault { IfErr result (IsRefused grammar.now) }
+    ensures fault { IfErr result (RefusesPrint grammar.now) }
 {
     if is_empty(grammar) {
         return print_without(alloc, format, format.outcome_without(), file, text, &[]);
@@ -58,7 +58,7 @@ fn print_read_grammar(
     text: &Snapshot,
 ) -> Result<Printed, FileFault>
     ensures printed { IfOk result (λ printed. spec.IsPrintedRead format file.now text.now printed) }
-    ensures fault { IfErr result (λ fault. (IsNotGathered format text.now fault ⊎ (fault ≡ FileFault.Memory)) ⊎ ((grammar : List Sourced) × IsGrammarIn format text.now (Ok grammar) × IsRefused grammar fault)) }
+    ensures fault { IfErr result (λ fault. (IsNotGathered format text.now fault ⊎ (fault ≡ FileFault.Memory)) ⊎ ((grammar : List Sourced) × IsGrammarIn format text.now (Ok grammar) × RefusesPrint grammar fault)) }
 {
     match grammar_in(alloc, format, text)? {
         Ok(grammar) => print_gathered_grammar(alloc, file, format, text, &grammar),

@@ -19,7 +19,7 @@ use Rattle.abnf_lint.specs.Order.{FindingsAscend, finding_before, key, key_cmp}
 use Rattle.abnf_lint.specs.Rows.{AreRows}
 use Rattle.abnf_lint.proofs.Ascends.{rows_unique}
 use Rattle.abnf_lint.proofs.FindingsExist.{some_findings}
-use Rattle.findings_text.specs.Gaps.{AreKept, IsFilled, IsFilledTooLarge, behind, idle_lines, is_unproductive}
+use Rattle.findings_text.specs.Gaps.{AreLinesKept, IsFilled, IsFilledTooLarge, gaps_behind, idle_lines, is_unproductive}
 
 -- ---- the lines rise
 
@@ -60,8 +60,8 @@ all_from f (g ∷ gs) all = (line_before f g all.0, all_from f gs all.1)
 -- with a finding more in front, of a rule that generates nothing or not
 up_one : (b : Bool) (from : ℕ) (f : Finding) (rest : List Finding) → from ≤ f.place.line → IsUp f.place.line (map (λ g. g.place.line) rest) → IsUp from (map (λ g. g.place.line) rest)
     → IsUp from (map (λ g. g.place.line) (cond b (f ∷ rest) rest))
-up_one true from f rest less behind all = (less, behind)
-up_one false from f rest less behind all = all
+up_one true from f rest less gaps_behind all = (less, gaps_behind)
+up_one false from f rest less gaps_behind all = all
 
 lines_up : (found : List Finding) → FindingsAscend found → (from : ℕ) → From from found → IsUp from (idle_lines found)
 lines_up [] up from all = tt
@@ -110,12 +110,12 @@ module _ (all text : List ℕ) (utf8 : IsUtf8 all) (is : chars all ≡ text) (n 
   refused_large (Ok s) large = tt
   refused_large (Err fault) large = λ e. let more = large (ap Err e) in omega (arith, more, size_is)
 
-module _ (told text : List ℕ) (found : List Finding) (are : AreRows text found) (lines : List ℕ) (is : lines ≡ behind told found) where
+module _ (told text : List ℕ) (found : List Finding) (are : AreRows text found) (lines : List ℕ) (is : lines ≡ gaps_behind told found) where
   -- what is put behind a text makes the filled one of it
   filled_with : IsFilled told text (text ++ chars lines)
   filled_with = record { found = found; of_text = are; is = ap (λ (ls : List ℕ). text ++ chars ls) is }
 
-  pub kept_with : {E : Type 0} (r : Result (List ℕ) E) → IfOk r (λ kept. (rows : List Finding) × AreRows (text ++ chars lines) rows × (kept ≡ idle_lines rows)) → IfOk r (λ kept. AreKept told text kept)
+  pub kept_with : {E : Type 0} (r : Result (List ℕ) E) → IfOk r (λ kept. (rows : List Finding) × AreRows (text ++ chars lines) rows × (kept ≡ idle_lines rows)) → IfOk r (λ kept. AreLinesKept told text kept)
   kept_with (Ok kept) e = record { filled = text ++ chars lines; is = filled_with; found = e.0; of_filled = e.1; are = e.2 }
   kept_with (Err x) e = e
 
@@ -123,17 +123,17 @@ module _ (told text : List ℕ) (found : List Finding) (are : AreRows text found
   filled_as_is : lines ≡ [] → IsFilled told text text
   filled_as_is none = record { found = found; of_text = are; is = sym (ap (λ (ls : List ℕ). text ++ ls) chars-nil ∙ append-nil text) ∙ ap (λ (ls : List ℕ). text ++ chars ls) (sym none ∙ is) }
 
-  pub kept_as_is : lines ≡ [] → (kept : List ℕ) → kept ≡ idle_lines found → AreKept told text kept
+  pub kept_as_is : lines ≡ [] → (kept : List ℕ) → kept ≡ idle_lines found → AreLinesKept told text kept
   kept_as_is none kept kept_is = record { filled = text; is = filled_as_is none; found = found; of_filled = are; are = kept_is }
 
 -- a text has one filled one, and no other
 pub some_filled : (told text : List ℕ) → length text < 2 ^ 62 → (filled : List ℕ) × IsFilled told text filled
 some_filled told text small =
     let found = some_findings text small in
-    (text ++ chars (behind told found.0), record { found = found.0; of_text = found.1; is = refl })
+    (text ++ chars (gaps_behind told found.0), record { found = found.0; of_text = found.1; is = refl })
 
 pub one_filled : (told text a b : List ℕ) → IsFilled told text a → IsFilled told text b → a ≡ b
-one_filled told text a b p q = p.is ∙ (ap (λ (fs : List Finding). text ++ chars (behind told fs)) (rows_unique text p.found q.found p.of_text q.of_text) ∙ sym q.is)
+one_filled told text a b p q = p.is ∙ (ap (λ (fs : List Finding). text ++ chars (gaps_behind told fs)) (rows_unique text p.found q.found p.of_text q.of_text) ∙ sym q.is)
 
 -- where the filled text has few bytes, it isn't too large
 not_too_large : (told text filled : List ℕ) → IsFilled told text filled → length (encode_utf8_all filled) ≤ max_bytes → IsFilledTooLarge told text → ⊥
@@ -141,7 +141,7 @@ not_too_large told text filled is small large =
     let one = one_filled told text large.filled filled large.is is in
     omega (arith, small, large.large, ap (λ (t : List ℕ). length (encode_utf8_all t)) one)
 
-module _ (told text : List ℕ) (found : List Finding) (are : AreRows text found) (lines : List ℕ) (is : lines ≡ behind told found) where
+module _ (told text : List ℕ) (found : List Finding) (are : AreRows text found) (lines : List ℕ) (is : lines ≡ gaps_behind told found) where
   pub small_with : {K E : Type 0} (r : Result K E) → OnOk r (length (encode_utf8_all (text ++ chars lines)) ≤ max_bytes) → OnOk r (IsFilledTooLarge told text → ⊥)
   small_with (Ok kept) small = not_too_large told text (text ++ chars lines) (filled_with told text found are lines is) small
   small_with (Err x) small = small
@@ -152,14 +152,14 @@ module _ (told text : List ℕ) (found : List Finding) (are : AreRows text found
 -- ---- there is one list of lines
 
 pub text_small : (told text filled : List ℕ) → IsFilled told text filled → length filled < 2 ^ 62 → length text < 2 ^ 62
-text_small told text filled is small = omega (arith, small, ap length is.is, length-append text (chars (behind told is.found)))
+text_small told text filled is small = omega (arith, small, ap length is.is, length-append text (chars (gaps_behind told is.found)))
 
-pub some_kept : (told text filled : List ℕ) → IsFilled told text filled → length filled < 2 ^ 62 → (kept : List ℕ) × AreKept told text kept
+pub some_kept : (told text filled : List ℕ) → IsFilled told text filled → length filled < 2 ^ 62 → (kept : List ℕ) × AreLinesKept told text kept
 some_kept told text filled is small =
     let found = some_findings filled small in
     (idle_lines found.0, record { filled = filled; is = is; found = found.0; of_filled = found.1; are = refl })
 
-pub one_kept : (told text a b : List ℕ) → AreKept told text a → AreKept told text b → a ≡ b
+pub one_kept : (told text a b : List ℕ) → AreLinesKept told text a → AreLinesKept told text b → a ≡ b
 one_kept told text a b p q =
     let there : AreRows q.filled p.found = subst (λ (t : List ℕ). AreRows t p.found) (one_filled told text p.filled q.filled p.is q.is) p.of_filled in
     p.are ∙ (ap idle_lines (rows_unique q.filled p.found q.found there q.of_filled) ∙ sym q.are)

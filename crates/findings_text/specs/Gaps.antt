@@ -41,20 +41,20 @@ abbrev pub is_unproductive : Finding → Bool
 is_unproductive finding = is_unproductive_code finding.code
 
 -- the finding is such a rule of the grammar at the front of a joined text
-abbrev pub is_idle : List ℕ → Finding → Bool
-is_idle told finding = is_unproductive finding && stands_in told finding.place
+abbrev pub is_idle_in_front : List ℕ → Finding → Bool
+is_idle_in_front told finding = is_unproductive finding && stands_in told finding.place
 
 -- what is put behind a joined text with these findings: what fills its gaps, if a rule of the grammar at its front generates nothing;
 -- else no gap matters
-abbrev pub behind : List ℕ → List Finding → List ℕ
-behind told found = if list_any (is_idle told) found then fillings told found else []
+abbrev pub gaps_behind : List ℕ → List Finding → List ℕ
+gaps_behind told found = if list_any (is_idle_in_front told) found then fillings told found else []
 
 -- This is the filled text: a joined one, and behind it what is put there by its findings. There is one (`filled_texts_exist`), and only
 -- one (`filled_texts_are_unique`).
 pub record IsFilled (told text filled : List ℕ) : Type 0 where
   pub found : List Finding
   pub of_text : AreRows text found
-  pub is : filled ≡ text ++ chars (behind told found)
+  pub is : filled ≡ text ++ chars (gaps_behind told found)
 
 -- The filled text has more bytes of UTF-8 than a text may have, 4,194,304.
 pub record IsFilledTooLarge (told text : List ℕ) : Type 0 where
@@ -69,7 +69,7 @@ abbrev pub idle_lines : List Finding → List ℕ
 idle_lines found = map (λ f. f.place.line) (filter is_unproductive found)
 
 -- These are the lines in which rules begin that generate nothing in the filled text.
-pub record AreKept (told text kept : List ℕ) : Type 0 where
+pub record AreLinesKept (told text kept : List ℕ) : Type 0 where
   pub filled : List ℕ
   pub is : IsFilled told text filled
   pub found : List Finding

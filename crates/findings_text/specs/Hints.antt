@@ -13,7 +13,7 @@ use Rattle.abnf_names.specs.Rules.{Grammar, IsGrammar}
 use Rattle.abnf_lint.specs.declared.finding.Code.{Code}
 use Rattle.abnf_lint.specs.declared.finding.Code.TheVariants.{Syntax, Undefined}
 use Rattle.abnf_lint.specs.declared.finding.Finding.{Finding}
-use Rattle.abnf_lint.specs.Messages.{message_of}
+use Rattle.abnf_lint.specs.Messages.{finding_message}
 use Rattle.findings_text.specs.Heads.{heads}
 
 -- the code of a name that stands for nothing
@@ -65,13 +65,13 @@ hint_of known finding = if is_undefined finding then hint (nearest finding.name 
 
 -- the message of a finding, and what is said behind it
 abbrev pub message : List (List ℕ) → Finding → List ℕ
-message known finding = message_of finding.code finding.name ++ hint_of known finding
+message known finding = finding_message finding.code finding.name ++ hint_of known finding
 
 -- ---- faults of syntax
 
 -- the bytes of a line, of which there are none behind the last
-abbrev pub line_at : List ℕ → ℕ → List ℕ
-line_at text at = option_map_or (λ line. line) (option_map encode_utf8_all (slice_get (lines text) at)) []
+abbrev pub line_bytes : List ℕ → ℕ → List ℕ
+line_bytes text at = option_map_or (λ line. line) (option_map encode_utf8_all (slice_get (lines text) at)) []
 
 -- what is said where a `#` stands in a line, by which HTTP has lists, or a `\`, which folds lines
 abbrev pub character_hint : List ℕ → ℕ → List ℕ
@@ -93,7 +93,7 @@ front_hint line place =
 -- What is said behind the message of a fault of syntax in a text: of a bad character, of one that stands behind a repeat without an
 -- element, and of what stands where a name should.
 abbrev pub fault_hint : List ℕ → Code → List ℕ
-fault_hint text (Syntax (BadToken place)) = character_hint (line_at text place.line) place.start
-fault_hint text (Syntax (ElementExpected place)) = character_hint (line_at text place.line) place.end
-fault_hint text (Syntax (NoName place)) = front_hint (line_at text place.line) place
+fault_hint text (Syntax (BadToken place)) = character_hint (line_bytes text place.line) place.start
+fault_hint text (Syntax (ElementExpected place)) = character_hint (line_bytes text place.line) place.end
+fault_hint text (Syntax (NoName place)) = front_hint (line_bytes text place.line) place
 fault_hint text _ = []

@@ -8,7 +8,7 @@ use Rattle.abnf_lint.specs.Rows.{AreRows}
 use Rattle.draft_findings.specs.Reports.{reported}
 use Rattle.joined_grammars.specs.declared.repeats.Repeat.{Repeat}
 use Rattle.findings_text.specs.declared.print.Printed.{Printed}
-use Rattle.findings_text.specs.Gaps.{AreKept}
+use Rattle.findings_text.specs.Gaps.{AreLinesKept}
 use Rattle.findings_text.specs.Hints.{AreKnown, compared}
 use Rattle.findings_text.specs.Print.{Locator, shown_lines}
 use Rattle.findings_text.specs.Rules.{AreRuleLines, heads}
@@ -29,7 +29,7 @@ pub record AreToldWith (told text : List ℕ) (found : List Finding) (names : Li
   pub known : List (List ℕ)
   pub are_known : AreKnown text known
   pub names_are : names ≡ compared found known
-  pub are_kept : AreKept told text kept
+  pub are_kept : AreLinesKept told text kept
 
 -- This is printed of the grammar at the front of a joined text, of whose file this can't be read, where these definitions repeat
 -- others, and blocks end at these lines: the lines of what is reported of the findings that stand there, in their order, among

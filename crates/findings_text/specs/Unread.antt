@@ -52,18 +52,18 @@ abbrev pub unread_lines : List ℕ → (Unread → Position) → List Unread →
 unread_lines file place unread = flat_map (λ u. lack_line file (place u) u.lack) unread
 
 -- a position stands before another one
-abbrev pub is_before : Position → Position → Bool
-is_before a b = nat_lt a.line b.line || (a.line == b.line && nat_lt a.character b.character)
+abbrev pub is_position_before : Position → Position → Bool
+is_position_before a b = nat_lt a.line b.line || (a.line == b.line && nat_lt a.character b.character)
 
 -- how many of these begin before a position, up to the first that doesn't
-abbrev pub ahead : (Unread → Position) → Position → List Unread → ℕ
-ahead place at unread = prefix_len (λ u. is_before (place u) at) unread
+abbrev pub count_before : (Unread → Position) → Position → List Unread → ℕ
+count_before place at unread = prefix_len (λ u. is_position_before (place u) at) unread
 
 -- the lines of what is reported, each behind the lines of what can't be read and begins before it, and then those of what is left
 abbrev pub merged : List ℕ → (Unread → Position) → (Remarked → Position) → (Remarked → List ℕ) → List Unread → List Remarked → List ℕ
 merged file place begin line unread [] = unread_lines file place unread
 merged file place begin line unread (r ∷ rs) =
-    let n = ahead place (begin r) unread in
+    let n = count_before place (begin r) unread in
     unread_lines file place (take n unread) ++ (line r ++ merged file place begin line (drop n unread) rs)
 
 -- how a file went, where what can't be read is a warning

@@ -35,14 +35,14 @@ fn is_unproductive(finding: &Finding) -> bool
 
 /// Whether it is such a rule of the grammar at the front of a joined text.
 fn is_idle(told: &Snapshot, finding: &Finding) -> bool
-    ensures { result ≡ spec.is_idle told.now finding.now }
+    ensures { result ≡ spec.is_idle_in_front told.now finding.now }
 {
     is_unproductive(finding) && stands_in(told, &finding.place)
 }
 
 /// Whether there is such a rule.
 fn has_idle(told: &Snapshot, found: &[Finding]) -> bool
-    ensures { result ≡ list_any (spec.is_idle told.now) found.now }
+    ensures { result ≡ list_any (spec.is_idle_in_front told.now) found.now }
 {
     found.iter().any(|finding| is_idle(told, finding))
 }
@@ -78,7 +78,7 @@ fn fillings(alloc: Global, told: &Snapshot, found: &[Finding]) -> Result<String,
 
 /// What stands behind a joined text with these findings where it is filled.
 fn behind(alloc: Global, told: &Snapshot, found: &[Finding]) -> Result<String, Memory>
-    ensures { IfOk result (λ lines. string_bytes lines ≡ spec.behind told.now found.now) }
+    ensures { IfOk result (λ lines. string_bytes lines ≡ spec.gaps_behind told.now found.now) }
 {
     if has_idle(told, found) {
         fillings(alloc, told, found)
@@ -185,7 +185,7 @@ pub(crate) fn kept_in(
     found: &[Finding],
 ) -> Result<Kept, TextFault>
     requires { AreRows text.now found.now }
-    ensures kept { IfOk result (λ kept. spec.AreKept told.now text.now kept) }
+    ensures kept { IfOk result (λ kept. spec.AreLinesKept told.now text.now kept) }
     ensures small { OnOk result (spec.IsFilledTooLarge told.now text.now → ⊥) }
     ensures too_large { IfErr result (λ fault. fault ≡ TextFault.TooLarge → spec.IsFilledTooLarge told.now text.now) }
 {

@@ -155,7 +155,7 @@ pub(crate) fn message(alloc: Global, known: &[&str], finding: &Finding) -> Resul
 
 /// A line of a text, empty behind the last.
 fn line_at(text: &Snapshot, at: usize) -> &str
-    ensures { result.now ≡ spec.line_at text.now at }
+    ensures { result.now ≡ spec.line_bytes text.now at }
 {
     match text.line(at) {
         Some(line) => line,

@@ -98,14 +98,14 @@ pub(crate) fn push_unread(
 
 /// Whether a position stands before another one.
 fn is_before(a: Position, b: Position) -> bool
-    ensures { result ≡ spec.is_before a b }
+    ensures { result ≡ spec.is_position_before a b }
 {
     a.line < b.line || (a.line == b.line && a.character < b.character)
 }
 
 /// How many of these begin before a position, up to the first that doesn't.
 fn ahead(source: Source<'_>, at: Position, unread: &[Unread]) -> usize
-    ensures count { result ≡ spec.ahead (asides_in source.entry).0 at unread.now }
+    ensures count { result ≡ spec.count_before (asides_in source.entry).0 at unread.now }
     ensures within { result ≤ length unread.now }
 {
     unread
@@ -123,8 +123,8 @@ pub(crate) fn push_ahead<'u>(
     at: Position,
     unread: &'u [Unread],
 ) -> Result<&'u [Unread], Memory>
-    ensures lines { OnOk result (string_bytes lines.new ≡ string_bytes lines.old ++ spec.unread_lines file.now (asides_in source.entry).0 (take (spec.ahead (asides_in source.entry).0 at unread.now) unread.now)) }
-    ensures left { IfOk result (λ left. left.now ≡ drop (spec.ahead (asides_in source.entry).0 at unread.now) unread.now) }
+    ensures lines { OnOk result (string_bytes lines.new ≡ string_bytes lines.old ++ spec.unread_lines file.now (asides_in source.entry).0 (take (spec.count_before (asides_in source.entry).0 at unread.now) unread.now)) }
+    ensures left { IfOk result (λ left. left.now ≡ drop (spec.count_before (asides_in source.entry).0 at unread.now) unread.now) }
 {
     let (front, left) = unread.split_at(ahead(source, at, unread));
     push_unread(lines, alloc, file, source, front)?;

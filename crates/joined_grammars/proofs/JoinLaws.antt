@@ -18,7 +18,7 @@ use Rattle.abnf_syntax.proofs.Bare.{bare, bare_head, head_bare, one_list, same_i
 use Rattle.abnf_syntax.proofs.Exist.{some_blocks}
 use Rattle.abnf_parts.specs.Names.{Name, rule_number, with_name}
 use Rattle.joined_grammars.specs.own.Passes.{HasJoined, JoinsBlocks, Joining}
-use Rattle.joined_grammars.specs.Joined.{AreBlocksOf, Follows, IsJoined, block_text, with_break, head_name, is_new, new_text, with_head_name, with_heads}
+use Rattle.joined_grammars.specs.Joined.{AreBlocksOf, Follows, IsJoined, block_text, with_break, defined_name, is_new, new_text, with_head_name, with_heads}
 
 -- ---- there is one
 
@@ -112,7 +112,7 @@ record Named : Type 0 where
   name : Option Name
 
 abbrev named : Block → Named
-named block = record { bounds = bounds block; name = head_name block }
+named block = record { bounds = bounds block; name = defined_name block }
 
 abbrev name_in : Option Head → Option Name
 name_in o = option_map (λ (head : Head). lowercase head.name.text.now) o

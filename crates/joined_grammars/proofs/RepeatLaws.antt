@@ -22,8 +22,8 @@ use Rattle.abnf_syntax.proofs.Cons.{cons_same}
 use Rattle.abnf_parts.specs.Names.{Name, rule_number, with_name}
 use Rattle.abnf_parts.proofs.NameLaws.{position_any, position_cons, same_is, with_new, with_there}
 use Rattle.joined_grammars.specs.declared.repeats.Repeat.{Repeat}
-use Rattle.joined_grammars.specs.Repeats.{AreRepeats, Definition, defines, definition, name_defined, repeat, repeat_of, repeats_behind, word_of}
-use Rattle.joined_grammars.specs.own.Firsts.{AreFirsts, AreTablesWith, definition_at, definitions, with_place}
+use Rattle.joined_grammars.specs.Repeats.{AreRepeats, Definition, is_of_name, definition, name_defined, repeat, repeat_of, repeats_behind, word_of}
+use Rattle.joined_grammars.specs.own.Firsts.{AreFirsts, AreTablesWith, definition_at, definitions, with_first}
 use Rattle.joined_grammars.proofs.JoinLaws.{blocks_of, same_made}
 
 -- ---- the table of the first definitions
@@ -31,7 +31,7 @@ use Rattle.joined_grammars.proofs.JoinLaws.{blocks_of, same_made}
 -- no definitions
 pub no_firsts : (names : List Name) (firsts : List Definition) → names ≡ [] → firsts ≡ [] → AreFirsts [] names firsts
 no_firsts names firsts e f = record {
-  first = λ name. ap (find (defines name)) (sym f);
+  first = λ name. ap (find (is_of_name name)) (sym f);
   named = ap (map (λ (name : Name). Some name)) e ∙ ap (map (λ (d : Definition). d.name)) (sym f);
 }
 
@@ -44,11 +44,11 @@ one_more name true d e = cc
 one_more name false d e = refl
 
 -- one behind them that defines another name, or none
-beside : (name : Name) (before : List Definition) (d : Definition) → defines name d ≡ false → find (defines name) (before ++ d ∷ []) ≡ find (defines name) before
+beside : (name : Name) (before : List Definition) (d : Definition) → is_of_name name d ≡ false → find (is_of_name name) (before ++ d ∷ []) ≡ find (is_of_name name) before
 beside name before d others =
-    find-append (defines name) before (d ∷ []) ∙ (ap (option_or (find (defines name) before)) (one_more name (defines name d) d others) ∙ or_none (find (defines name) before))
+    find-append (is_of_name name) before (d ∷ []) ∙ (ap (option_or (find (is_of_name name) before)) (one_more name (is_of_name name d) d others) ∙ or_none (find (is_of_name name) before))
 
-none_defined : (name : Name) (d : Definition) → d.name ≡ None → defines name d ≡ false
+none_defined : (name : Name) (d : Definition) → d.name ≡ None → is_of_name name d ≡ false
 none_defined name d e = ap (λ o. option_map_or (bytes_eq name) o false) e
 
 -- a definition of no name comes
@@ -63,8 +63,8 @@ pub firsts_new : (before : List Definition) (names more : List Name) (firsts : L
     → rule_number names name ≡ None → more ≡ with_name names name → AreFirsts (before ++ d ∷ []) more (firsts ++ d ∷ [])
 firsts_new before names more firsts d name are e new with = record {
   first = λ other.
-      find-append (defines other) before (d ∷ [])
-      ∙ (ap (λ o. option_or o (find (defines other) (d ∷ []))) (are.first other) ∙ sym (find-append (defines other) firsts (d ∷ [])));
+      find-append (is_of_name other) before (d ∷ [])
+      ∙ (ap (λ o. option_or o (find (is_of_name other) (d ∷ []))) (are.first other) ∙ sym (find-append (is_of_name other) firsts (d ∷ [])));
   named =
       ap (map (λ (n : Name). Some n)) (with ∙ with_new name names new)
       ∙ (map-append (λ (n : Name). Some n) names (name ∷ [])
@@ -73,7 +73,7 @@ firsts_new before names more firsts d name are e new with = record {
 
 -- the place of a name is that of its first definition
 pub place_is : (name : Name) (names : List Name) (firsts : List Definition) → map (λ (n : Name). Some n) names ≡ map (λ (d : Definition). d.name) firsts
-    → option_and_then (slice_get firsts) (rule_number names name) ≡ find (defines name) firsts
+    → option_and_then (slice_get firsts) (rule_number names name) ≡ find (is_of_name name) firsts
 place_is name [] [] e = refl
 place_is name [] (f ∷ firsts) e = cc
 place_is name (n ∷ names) [] e = cc
@@ -81,28 +81,28 @@ place_is name (n ∷ names) (f ∷ firsts) e =
     let same = cons_same e in
     ap (option_and_then (slice_get (f ∷ firsts))) (position_cons (bytes_eq name) n names)
     ∙ (by (bytes_eq name n) (place_is name names firsts same.1)
-    ∙ ap (λ o. cond (option_map_or (bytes_eq name) o false) (Some f) (find (defines name) firsts)) same.0)
+    ∙ ap (λ o. cond (option_map_or (bytes_eq name) o false) (Some f) (find (is_of_name name) firsts)) same.0)
   where
     one_on : (o : Option ℕ) → option_and_then (slice_get (f ∷ firsts)) (option_map suc o) ≡ option_and_then (slice_get firsts) o
     one_on None = refl
     one_on (Some k) = refl
 
-    by : (b : Bool) → option_and_then (slice_get firsts) (rule_number names name) ≡ find (defines name) firsts
-        → option_and_then (slice_get (f ∷ firsts)) (if b then Some 0 else option_map suc (rule_number names name)) ≡ cond b (Some f) (find (defines name) firsts)
+    by : (b : Bool) → option_and_then (slice_get firsts) (rule_number names name) ≡ find (is_of_name name) firsts
+        → option_and_then (slice_get (f ∷ firsts)) (if b then Some 0 else option_map suc (rule_number names name)) ≡ cond b (Some f) (find (is_of_name name) firsts)
     by true rest = refl
     by false rest = one_on (rule_number names name) ∙ rest
 
 -- a name of the table has a first definition
 some_same : (name : Name) (names : List Name) (firsts : List Definition) → map (λ (n : Name). Some n) names ≡ map (λ (d : Definition). d.name) firsts
-    → is_some (find (defines name) firsts) ≡ list_any (bytes_eq name) names
+    → is_some (find (is_of_name name) firsts) ≡ list_any (bytes_eq name) names
 some_same name [] [] e = refl
 some_same name [] (f ∷ firsts) e = cc
 some_same name (n ∷ names) [] e = cc
 some_same name (n ∷ names) (f ∷ firsts) e =
     let same = cons_same e in
-    ap (λ o. is_some (cond (option_map_or (bytes_eq name) o false) (Some f) (find (defines name) firsts))) (sym same.0) ∙ by (bytes_eq name n) (some_same name names firsts same.1)
+    ap (λ o. is_some (cond (option_map_or (bytes_eq name) o false) (Some f) (find (is_of_name name) firsts))) (sym same.0) ∙ by (bytes_eq name n) (some_same name names firsts same.1)
   where
-    by : (b : Bool) → is_some (find (defines name) firsts) ≡ list_any (bytes_eq name) names → is_some (cond b (Some f) (find (defines name) firsts)) ≡ (b || list_any (bytes_eq name) names)
+    by : (b : Bool) → is_some (find (is_of_name name) firsts) ≡ list_any (bytes_eq name) names → is_some (cond b (Some f) (find (is_of_name name) firsts)) ≡ (b || list_any (bytes_eq name) names)
     by true rest = refl
     by false rest = rest
 
@@ -114,23 +114,23 @@ some_or (Some x) p e = refl
 pub firsts_there : (before : List Definition) (names more : List Name) (firsts : List Definition) (d : Definition) (name : Name) (k : ℕ) → AreFirsts before names firsts → d.name ≡ Some name
     → rule_number names name ≡ Some k → more ≡ with_name names name → AreFirsts (before ++ d ∷ []) more firsts
 firsts_there before names more firsts d name k are e there with = record {
-  first = λ other. by other (defines other d) refl;
+  first = λ other. by other (is_of_name other d) refl;
   named = ap (map (λ (n : Name). Some n)) (with ∙ with_there name names k there) ∙ are.named;
 }
   where
-    known : is_some (find (defines name) firsts) ≡ true
+    known : is_some (find (is_of_name name) firsts) ≡ true
     known = some_same name names firsts are.named ∙ (position_any name names ∙ ap is_some there)
 
-    by : (other : Name) (b : Bool) → defines other d ≡ b → find (defines other) (before ++ d ∷ []) ≡ find (defines other) firsts
+    by : (other : Name) (b : Bool) → is_of_name other d ≡ b → find (is_of_name other) (before ++ d ∷ []) ≡ find (is_of_name other) firsts
     by other false others = beside other before d others ∙ are.first other
     by other true this =
         let same : other ≡ name = same_is other name (ap (λ o. option_map_or (bytes_eq other) o false) (sym e) ∙ this) in
-        let is : is_some (find (defines other) before) ≡ true = ap is_some (are.first other) ∙ (ap (λ n. is_some (find (defines n) firsts)) same ∙ known) in
-        find-append (defines other) before (d ∷ []) ∙ (some_or (find (defines other) before) (find (defines other) (d ∷ [])) is ∙ are.first other)
+        let is : is_some (find (is_of_name other) before) ≡ true = ap is_some (are.first other) ∙ (ap (λ n. is_some (find (is_of_name n) firsts)) same ∙ known) in
+        find-append (is_of_name other) before (d ∷ []) ∙ (some_or (find (is_of_name other) before) (find (is_of_name other) (d ∷ [])) is ∙ are.first other)
 
 -- the first definition of a name is found by the table
 pub first_is : (before : List Definition) (names : List Name) (firsts : List Definition) (name : Name) → AreFirsts before names firsts
-    → option_and_then (slice_get firsts) (rule_number names name) ≡ find (defines name) before
+    → option_and_then (slice_get firsts) (rule_number names name) ≡ find (is_of_name name) before
 first_is before names firsts name are = place_is name names firsts are.named ∙ sym (are.first name)
 
 -- the first definition of a name, of which the table has the place
@@ -151,7 +151,7 @@ first_within n places None k within e = absurd (none-some k e)
 first_within n places (Some j) k within e = subst (λ m. m < n) (get_or_from_slice_get places j k k e) (within j k (slice_get_within places j k e))
 
 -- places with one more are within
-pub within_with : (n : ℕ) (o : Option ℕ) (places : List ℕ) (at : ℕ) → All (λ k. k < n) places → at < n → All (λ k. k < n) (with_place o places at)
+pub within_with : (n : ℕ) (o : Option ℕ) (places : List ℕ) (at : ℕ) → All (λ k. k < n) places → at < n → All (λ k. k < n) (with_first o places at)
 within_with n None places at within less = All-push (λ k. k < n) places at within less
 within_with n (Some k) places at within less = within
 
@@ -163,7 +163,7 @@ pub adds_none : (blocks : List Block) (at : ℕ) (found : List Repeat) (names : 
     → (found ≡ found ++ repeat_of before (definition_at blocks at)) × AreFirsts (before ++ definition_at blocks at ∷ []) names (definitions blocks places)
 adds_none blocks at found names places before none are =
     let d = definition_at blocks at in (
-      sym (append-nil found) ∙ ap (λ (o : Option Name). found ++ option_map_or (λ name. option_map_or (λ first. repeat first d ∷ []) (find (defines name) before) []) o []) (sym none),
+      sym (append-nil found) ∙ ap (λ (o : Option Name). found ++ option_map_or (λ name. option_map_or (λ first. repeat first d ∷ []) (find (is_of_name name) before) []) o []) (sym none),
       firsts_beside before names (definitions blocks places) d are none,
     )
 
@@ -178,13 +178,13 @@ module _ (blocks : List Block) (at : ℕ) (found : List Repeat) (names more : Li
       by o
       ∙ (ap (λ (f : Option Definition). option_map_or (λ first. repeat first d ∷ []) f [])
       (ap (option_map (definition_at blocks)) e ∙ (place_of blocks places (rule_number names name) ∙ first_is before names (definitions blocks places) name are))
-      ∙ ap (λ (n : Option Name). option_map_or (λ name. option_map_or (λ first. repeat first d ∷ []) (find (defines name) before) []) n []) (sym is))
+      ∙ ap (λ (n : Option Name). option_map_or (λ name. option_map_or (λ first. repeat first d ∷ []) (find (is_of_name name) before) []) n []) (sym is))
     where
       by : (o : Option ℕ) → option_map_or (λ k. repeat (definition_at blocks k) d ∷ []) o [] ≡ option_map_or (λ first. repeat first d ∷ []) (option_map (definition_at blocks) o) []
       by None = refl
       by (Some k) = refl
 
-  firsts_by : (o : Option ℕ) → rule_number names name ≡ o → now ≡ with_place o places at → AreFirsts (before ++ d ∷ []) more (definitions blocks now)
+  firsts_by : (o : Option ℕ) → rule_number names name ≡ o → now ≡ with_first o places at → AreFirsts (before ++ d ∷ []) more (definitions blocks now)
   firsts_by None e places_are =
       subst (λ (fs : List Definition). AreFirsts (before ++ d ∷ []) more fs) (sym (ap (definitions blocks) places_are ∙ map-append (definition_at blocks) places (at ∷ [])))
       (firsts_new before names more (definitions blocks places) d name are is e tables.names_are)
@@ -242,9 +242,9 @@ up_with from d None rest less up = up_less from d.line rest less up
 up_with from d (Some first) rest less up = (less, up)
 
 up_one : (from : ℕ) (d : Definition) (o : Option Name) (before : List Definition) (rest : List Repeat) → from ≤ d.line → IsUp d.line rest
-    → IsUp from (option_map_or (λ name. option_map_or (λ first. repeat first d ∷ []) (find (defines name) before) []) o [] ++ rest)
+    → IsUp from (option_map_or (λ name. option_map_or (λ first. repeat first d ∷ []) (find (is_of_name name) before) []) o [] ++ rest)
 up_one from d None before rest less up = up_less from d.line rest less up
-up_one from d (Some name) before rest less up = up_with from d (find (defines name) before) rest less up
+up_one from d (Some name) before rest less up = up_with from d (find (is_of_name name) before) rest less up
 
 repeats_up : (ls : List Text) (from : ℕ) (before : List Definition) (blocks : List Block) → AreBlocks ls from (map bounds blocks) → IsUp from (repeats_behind before (map definition blocks))
 repeats_up ls from before [] are = tt

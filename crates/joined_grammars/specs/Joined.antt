@@ -18,12 +18,12 @@ pub record AreBlocksOf (text : List ℕ) (blocks : List Block) : Type 0 where
 
 -- the name that a block's head defines or adds to, with small letters, if it has a head (RFC 5234 section 2.1 has names read
 -- in any case)
-abbrev pub head_name : Block → Option Name
-head_name block = option_map (λ head. lowercase head.name.text.now) (head_of block.items)
+abbrev pub defined_name : Block → Option Name
+defined_name block = option_map (λ head. lowercase head.name.text.now) (head_of block.items)
 
 -- names, and behind them that of a block's head, unless it is there
 abbrev pub with_head_name : List Name → Block → List Name
-with_head_name names block = option_map_or (with_name names) (head_name block) names
+with_head_name names block = option_map_or (with_name names) (defined_name block) names
 
 -- names, and behind them those of the heads of blocks, each once
 abbrev pub with_heads : List Name → List Block → List Name
@@ -31,7 +31,7 @@ with_heads names blocks = fold with_head_name names blocks
 
 -- The block has a head, whose name isn't among these.
 abbrev pub is_new : List Name → Block → Bool
-is_new names block = option_map_or (λ name. not (is_some (rule_number names name))) (head_name block) false
+is_new names block = option_map_or (λ name. not (is_some (rule_number names name))) (defined_name block) false
 
 -- a line, and LF behind it
 abbrev pub with_break : List ℕ → List ℕ

@@ -7,7 +7,7 @@ use Rattle.abnf_syntax.specs.declared.block.Head.{Head}
 use Rattle.abnf_syntax.specs.declared.item.Item.{Item}
 use Rattle.abnf_syntax.specs.Grammar.{kind_of}
 use Rattle.abnf_syntax.specs.Heads.{head_of}
-use Rattle.abnf_syntax.specs.Kinds.{is_name}
+use Rattle.abnf_syntax.specs.Kinds.{is_name_kind}
 use Rattle.abnf_parts.specs.Names.{Name}
 use Rattle.joined_grammars.specs.Joined.{AreBlocksOf}
 use Rattle.joined_grammars.specs.declared.repeats.Repeat.{Repeat}
@@ -20,7 +20,7 @@ Word = Bool × List ℕ
 
 -- the word of an item, of a name with small letters, as names are read without case (RFC 5234 section 2.1)
 abbrev pub word_of : Item → Word
-word_of item = (is_name (kind_of item), if is_name (kind_of item) then lowercase item.token.text.now else item.token.text.now)
+word_of item = (is_name_kind (kind_of item), if is_name_kind (kind_of item) then lowercase item.token.text.now else item.token.text.now)
 
 -- two names, or two others, with the same text
 abbrev pub is_same_word : Word → Word → Bool
@@ -54,8 +54,8 @@ definition block = record {
 -- ---- which repeat another one
 
 -- it defines this name
-abbrev pub defines : Name → Definition → Bool
-defines name d = option_map_or (bytes_eq name) d.name false
+abbrev pub is_of_name : Name → Definition → Bool
+is_of_name name d = option_map_or (bytes_eq name) d.name false
 
 -- how a definition repeats the first of its name
 abbrev pub repeat : Definition → Definition → Repeat
@@ -63,7 +63,7 @@ repeat first d = record { line = d.line; original = first.line; is_same = same_w
 
 -- how a definition behind others repeats the first of them with its name, if one has it
 abbrev pub repeat_of : List Definition → Definition → List Repeat
-repeat_of before d = option_map_or (λ name. option_map_or (λ first. repeat first d ∷ []) (find (defines name) before) []) d.name []
+repeat_of before d = option_map_or (λ name. option_map_or (λ first. repeat first d ∷ []) (find (is_of_name name) before) []) d.name []
 
 -- how definitions behind others repeat those before them, in order
 abbrev pub repeats_behind : List Definition → List Definition → List Repeat

@@ -29,7 +29,7 @@ fn seed_of(told: &Snapshot, others: &[Snapshot]) -> u64 {
 
 /// The name that a block's head defines or adds to, if it has a head.
 fn head_name<'t>(block: &Block<'t>) -> Option<Folded<'t>>
-    ensures { option_map folded_text result ≡ spec.head_name block.now }
+    ensures { option_map folded_text result ≡ spec.defined_name block.now }
 {
     match block.head() {
         Some(head) => Some(Folded(head.name.text)),

@@ -9,7 +9,7 @@ use abnf_token::{Folded, Kind};
 
 /// Whether a token is a name, by its class.
 fn is_name(kind: Kind) -> bool
-    ensures { result ≡ kinds.is_name kind }
+    ensures { result ≡ kinds.is_name_kind kind }
 {
     match kind {
         Kind::Name => true,

@@ -19,7 +19,7 @@ use Rattle.abnf_syntax.specs.Blocks.{AreBlocksUpTo, IsNextBlock, IsSeam, begins_
 use Rattle.abnf_syntax.specs.Bounds.{bounds}
 use Rattle.abnf_syntax.specs.Faults.{last_of}
 use Rattle.abnf_syntax.specs.Grammar.{kind_of}
-use Rattle.abnf_syntax.specs.Kinds.{is_name, is_defined_as, is_adds}
+use Rattle.abnf_syntax.specs.Kinds.{is_name_kind, is_defined_as, is_adds}
 use Rattle.abnf_syntax.specs.Heads.{headed_items, headed_view}
 use Rattle.abnf_syntax.specs.Items.{AreItems}
 use Rattle.abnf_syntax.proofs.BlockLaws.{All_none, All_snoc, all_found, end_seam, found_more, none_found, text_blocks}
@@ -62,7 +62,7 @@ module _ (encoding : Encoding) where
   symbol_items : (text : List ℕ) (items : List Item) → symbol_of encoding text items ≡ option_map (headed_symbol encoding text) (headed_items items)
   symbol_items text [] = refl
   symbol_items text (x ∷ []) = refl
-  symbol_items text (x ∷ y ∷ xs) = by (is_name (kind_of x) && is_defined_as (kind_of y)) (record { name = x.token; adds = is_adds (kind_of y) }) refl
+  symbol_items text (x ∷ y ∷ xs) = by (is_name_kind (kind_of x) && is_defined_as (kind_of y)) (record { name = x.token; adds = is_adds (kind_of y) }) refl
     where
       by : (b : Bool) (head : Head) → head.name ≡ x.token → option_map (symbol_with encoding text x (last_of y xs)) (if b then Some head else None)
           ≡ option_map (headed_symbol encoding text) (option_map (λ (head : Head). record { head = head; last = (last_of y xs).token }) (if b then Some head else None))

@@ -5,8 +5,8 @@ use Rattle.std.specs.Option.{option_map, option_map_or}
 use Rattle.std.specs.List.{list_any}
 use Rattle.abnf_lint.specs.declared.finding.Finding.{Finding}
 use Rattle.joined_grammars.specs.declared.repeats.Repeat.{Repeat}
-use Rattle.draft_findings.specs.Copies.{is_duplicate, repeat_at, repeat_of, without_copies}
-use Rattle.draft_findings.specs.Reports.{Remarked, cut, remark_of, remarked, reported}
+use Rattle.draft_findings.specs.Copies.{is_duplicate, repeat_at, repeat_in_draft, without_copies}
+use Rattle.draft_findings.specs.Reports.{Remarked, cut_at, remark_of, remarked, reported}
 use Rattle.draft_findings.specs.declared.report.Remark.TheVariants.{Plain}
 
 abbrev pub says_duplicate : Finding → Bool
@@ -15,7 +15,7 @@ says_duplicate finding = is_duplicate finding.code
 abbrev kept_of : List Repeat → List Finding → List Remarked
 kept_of repeats found = map (remarked repeats) (without_copies repeats found)
 
-not_repeated : (repeats : List Repeat) (f : Finding) → is_duplicate f.code ≡ false → repeat_of repeats f ≡ None
+not_repeated : (repeats : List Repeat) (f : Finding) → is_duplicate f.code ≡ false → repeat_in_draft repeats f ≡ None
 not_repeated repeats f is = ap (λ b. if b then repeat_at repeats f.place.line else None) is
 
 module _ (f : Finding) (fs : List Finding) (is : is_duplicate f.code ≡ false) where
@@ -39,4 +39,4 @@ none_said repeats [] e = refl
 none_said repeats (f ∷ fs) e = one_said repeats f fs (is_duplicate f.code) refl e (none_said repeats fs)
 
 pub reported_alike : (repeats : List Repeat) (ends : List ℕ) (found : List Finding) → list_any says_duplicate found ≡ false → reported repeats ends found ≡ reported [] ends found
-reported_alike repeats ends found e = ap (cut ends) (none_said repeats found e)
+reported_alike repeats ends found e = ap (cut_at ends) (none_said repeats found e)

@@ -10,7 +10,7 @@ use Rattle.abnf_lint.specs.declared.finding.Code.TheVariants.{Undefined, Unprodu
 use Rattle.abnf_lint.specs.declared.finding.Finding.{Finding}
 use Rattle.abnf_lint.specs.declared.message.Severity.{Severity}
 use Rattle.abnf_lint.specs.declared.message.Severity.TheVariants.{Error}
-use Rattle.abnf_lint.specs.Messages.{code_text, message_of, severity_of}
+use Rattle.abnf_lint.specs.Messages.{code_text, finding_message, severity_of}
 use Rattle.abnf_lint.specs.Rows.{AreRows}
 use Rattle.origins.specs.Origins.{characters}
 use Rattle.xml_blocks.specs.Faults.{fault_words}
@@ -68,9 +68,9 @@ remarked_code of (FirstOf count) = code.Grammar of
 
 -- its message: the grammar's, and what the draft adds, or that the definition differs from the first, which begins in a line of the draft
 abbrev pub remarked_message : Mapped → Finding → Remark → List ℕ
-remarked_message of finding Plain = message_of finding.code finding.name
+remarked_message of finding Plain = finding_message finding.code finding.name
 remarked_message of finding (Differs line) = differing finding.name (draft_line of line)
-remarked_message of finding (FirstOf count) = message_of finding.code finding.name ++ addition (FirstOf count)
+remarked_message of finding (FirstOf count) = finding_message finding.code finding.name ++ addition (FirstOf count)
 
 -- a finding with what is said of it, at its place in the draft
 abbrev pub draft_diagnostic : Mapped → Remarked → DraftDiagnostic

@@ -1,7 +1,7 @@
 -- What is kept of the texts that were asked about last. No answer depends on it.
 use Rattle.std.specs.Prelude.{◌≡◌, ℕ, ◌-◌, ◌<◌, ◌⊎◌, List, [], length, Option, None, Some, slice_index_or}
-use Rattle.abnf_kept.specs.Known.{Known}
-use Rattle.abnf_kept.specs.Recent.{IsTaken, Texts, lent, with_last, with_text}
+use Rattle.incremental_findings.specs.Known.{Known}
+use Rattle.incremental_findings.specs.Recent.{IsTaken, Texts, lent, with_last, with_text}
 use Rattle.draft_grammars.specs.declared.format.Format.{Format}
 
 -- a draft whose grammar was gathered
@@ -19,8 +19,8 @@ pub record Remembered : Type 0 where
   pub drafts : Drafts
 
 -- nothing yet
-abbrev pub nothing : Remembered
-nothing = record { grammars = []; drafts = [] }
+abbrev pub nothing_kept : Remembered
+nothing_kept = record { grammars = []; drafts = [] }
 
 -- one of the drafts, or none
 abbrev pub IsOneOf : Drafts → Option KnownDraft → Type 0

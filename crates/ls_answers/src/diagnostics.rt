@@ -4,8 +4,8 @@ ghost use Rattle.std.specs.Arc.{arc_value};
 ghost use Rattle.ls_answers.specs.Diagnostics.{AreDiagnostics, diagnostic_of};
 
 use crate::answer::Diagnostic;
-use abnf_kept::{Diagnosed, Recent};
 use abnf_lint::Finding;
+use incremental_findings::{Diagnosed, Recent};
 use ls_lists::List;
 use ls_text::{Encoding, Ruler, Snapshot};
 use std::alloc::{AllocError as Memory, Global};

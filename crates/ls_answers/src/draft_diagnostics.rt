@@ -12,10 +12,10 @@ ghost use Rattle.ls_answers.specs.DraftDiagnostics as spec;
 
 use crate::answer::{DraftCode, DraftDiagnostic};
 use crate::diagnostics::diagnosed;
-use abnf_kept::Recent;
 use abnf_lint::{Code, Finding};
 use draft_findings::{Remark, Reported, differing, push_addition, reported_in_draft};
 use draft_grammars::SourceMap;
+use incremental_findings::Recent;
 use joined_grammars::Repeats;
 use ls_lists::{List, Text};
 use ls_text::{Encoding, Place, Ruler, Snapshot};

@@ -23,7 +23,7 @@ use std::sync::Arc;
 /// The answer to the question about the grammar of a draft, in the draft.
 fn carried(
     alloc: Global,
-    recent: &mut abnf_kept::Recent,
+    recent: &mut incremental_findings::Recent,
     format: Format,
     places: &SourceMap<'_>,
     ask: &Ask,
@@ -41,7 +41,7 @@ fn carried(
 /// The answer by the grammar of a draft.
 fn answer_with(
     alloc: Global,
-    recent: &mut abnf_kept::Recent,
+    recent: &mut incremental_findings::Recent,
     format: Format,
     places: &SourceMap<'_>,
     ask: &Ask,

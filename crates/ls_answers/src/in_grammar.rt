@@ -4,7 +4,7 @@ ghost use Rattle.std.specs.Arc.{arc_value};
 ghost use Rattle.abnf_token.specs.Classes as classes;
 ghost use Rattle.ls_answers.specs.InGrammars.{IsAnswerInGrammar};
 ghost use Rattle.ls_answers.specs.Asks.{IsToNoName};
-ghost use Rattle.ls_answers.specs.own.Asked.{IsToAName, asked};
+ghost use Rattle.ls_answers.specs.own.Asked.{IsToAName, as_ask};
 
 use crate::answer::{Answer, RenameFault};
 use crate::ask::Ask;
@@ -15,8 +15,8 @@ use crate::outline::symbols;
 use crate::places::{definitions, references};
 use crate::rename::{is_name, rename};
 use crate::semantic_tokens::semantic_tokens;
-use abnf_kept::Recent;
 use abnf_names::Grammar;
+use incremental_findings::Recent;
 use ls_lists::Text;
 use ls_text::{Encoding, Position, Range, Snapshot};
 use std::alloc::{AllocError as Memory, Global};
@@ -85,7 +85,7 @@ fn by_grammar(
     ask: GrammarAsk<'_>,
 ) -> Result<Answer, Memory>
     requires { IsToAName ask }
-    ensures { IfOk result (λ answer. IsAnswerInGrammar encoding snapshot.now (asked ask.entry) answer) }
+    ensures { IfOk result (λ answer. IsAnswerInGrammar encoding snapshot.now (as_ask ask.entry) answer) }
 {
     let grammar = Grammar::of(alloc, snapshot)?;
     let answer = answer_in(alloc, &grammar, encoding, ask);
@@ -101,7 +101,7 @@ fn answer_in(
     ask: GrammarAsk<'_>,
 ) -> Result<Answer, Memory>
     requires { IsToAName ask }
-    ensures { IfOk result (λ answer. IsAnswerInGrammar encoding grammar.now.text (asked ask.entry) answer) }
+    ensures { IfOk result (λ answer. IsAnswerInGrammar encoding grammar.now.text (as_ask ask.entry) answer) }
 {
     match ask {
         GrammarAsk::Hover(at) => Ok(Answer::Hover(hover(alloc, grammar, at, encoding)?)),

@@ -2,7 +2,7 @@
 
 ghost use Rattle.std.specs.Prelude.{◌≡◌, ◌<◌, IfOk, IfSome, IsTrue, length};
 ghost use Rattle.std.specs.Arc.{arc_value};
-ghost use Rattle.abnf_kept.specs.Recent.{IsTaken};
+ghost use Rattle.incremental_findings.specs.Recent.{IsTaken};
 ghost use Rattle.draft_grammars.specs.Drafts.{contents_in};
 ghost use Rattle.ls_answers.specs.Remembered as spec;
 
@@ -99,7 +99,7 @@ impl ReadDraft {
 /// It may spare the questions that come much work, and no answer depends on it.
 #[derive(Drop)]
 pub struct Recent {
-    pub(crate) grammars: abnf_kept::Recent,
+    pub(crate) grammars: incremental_findings::Recent,
     // (Options, since the vector fills the places that aren't used.)
     drafts: ArrayVec<Option<ReadDraft>, MOST>,
 }
@@ -130,10 +130,10 @@ fn nearest(drafts: &[Option<ReadDraft>], text: &Snapshot) -> Option<usize>
 impl Recent {
     /// Nothing yet. It takes no memory.
     pub fn new() -> Recent
-        ensures { result ≡ spec.nothing }
+        ensures { result ≡ spec.nothing_kept }
     {
         Recent {
-            grammars: abnf_kept::Recent::new(),
+            grammars: incremental_findings::Recent::new(),
             drafts: ArrayVec::new(),
         }
     }

@@ -12,8 +12,8 @@ use Rattle.ls_machine.specs.declared.event.Event.TheVariants.{Opened, Changed, C
 use Rattle.ls_machine.specs.declared.event.Out.{Out}
 use Rattle.ls_machine.specs.declared.state.Document.{Document}
 use Rattle.ls_machine.specs.declared.state.Waiting.{Waiting}
-use Rattle.ls_machine.specs.declared.state.Entry.{Entry}
-use Rattle.ls_machine.specs.declared.state.Entry.TheVariants.{Body}
+use Rattle.ls_machine.specs.declared.state.OutboxEntry.{OutboxEntry}
+use Rattle.ls_machine.specs.declared.state.OutboxEntry.TheVariants.{Body}
 use Rattle.ls_machine.specs.declared.event.Out.TheVariants as out
 use Rattle.ls_desk.specs.declared.texts.Next.{Next}
 use Rattle.ls_rpc.specs.declared.message.Id.{Id}
@@ -73,7 +73,7 @@ changed s N O uri label edits next N' O' kept there is_next is_d is_w is_v is_t 
     let p = puts (close_text s uri) uri label x in
     let one = count_le next in
     let P : List Out → Type 0 = λ os. AreOutsFor (s.unsent ++ ends uri s.waiting) os in
-    let Q : List Entry → Type 0 = λ es. AreOutsFor es O' in
+    let Q : List OutboxEntry → Type 0 = λ es. AreOutsFor es O' in
     record {
       possible = (change_possible s uri label edits _ there ((λ i. version_if (kept.version_is i) (is_next i)) ∙ version_same s.next_version s.next_version s.next_ticket uri label x));
       holds = record {
@@ -160,7 +160,7 @@ unfolding step
 requested s N O id uri question links job N' kept is_job few new is_d is_w is_v is_t =
     let d = document_of uri s.documents in
     let p = asks s id d question links job is_job in
-    let P : List Entry → Type 0 = λ es. AreOutsFor es O in
+    let P : List OutboxEntry → Type 0 = λ es. AreOutsFor es O in
     record {
       possible = (ask_possible s id uri question links N.next_ticket p.open_is few new kept.ticket_is);
       holds = record {
@@ -308,7 +308,7 @@ pub uncancelled : (s : State) (N : Present) (O : List Out) (id : Id)
 unfolding step
 uncancelled s N O id kept there =
     let Q : Option Waiting → Type 0 = λ found. AreOutsFor (s.unsent ++ told_if_found request_cancelled found) O in
-    let P : List Entry → Type 0 = λ es. AreOutsFor es O in
+    let P : List OutboxEntry → Type 0 = λ es. AreOutsFor es O in
     record {
       possible = (cancel_possible s id false (sym (ap is_some there)));
       holds = record {

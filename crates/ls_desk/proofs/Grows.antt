@@ -10,10 +10,10 @@ use Rattle.ls_machine.specs.declared.event.Out.{Out}
 use Rattle.ls_machine.specs.declared.state.Waiting.{Waiting}
 use Rattle.ls_machine.specs.declared.state.Request.{Request}
 use Rattle.ls_machine.specs.declared.state.State.{State}
-use Rattle.ls_machine.specs.declared.state.Entry.{Entry}
-use Rattle.ls_machine.specs.declared.state.Entry.TheVariants.{Body, Failure, Outcome}
+use Rattle.ls_machine.specs.declared.state.OutboxEntry.{OutboxEntry}
+use Rattle.ls_machine.specs.declared.state.OutboxEntry.TheVariants.{Body, Failure, Outcome}
 use Rattle.ls_machine.specs.Machine.{step, IsPossible, told_to, end_of, ends, is_ended, content_modified}
-use Rattle.ls_machine.specs.Counts.{count_one, counted, first, is_client, total}
+use Rattle.ls_machine.specs.Counts.{count_one, counted_with, first, is_client, total}
 use Rattle.ls_machine.specs.Journal.{replay_from, IsLegalFrom, IsCutAt, IsPast}
 use Rattle.ls_machine.proofs.Replays.{counted_none, counted_push, cut_push, legal_none, legal_push, past_more, past_state, replay_none, replay_one, replay_push, total_counted, total_one}
 use Rattle.ls_machine.proofs.Taken.{WereTaken, taken_all}
@@ -22,18 +22,18 @@ use Rattle.ls_desk.specs.Anew.{IsEndedBy, base_after, journal_after}
 use Rattle.ls_desk.specs.Stands.{Seen, Answers, IsOutFor, AreOutsFor, Enters, failed_to, failed_by, failures, fresh, fresh_for, out_of, state_of, used}
 use Rattle.ls_desk.specs.declared.present.Present.{Present}
 use Rattle.ls_desk.specs.declared.history.History.{History}
-use Rattle.ls_desk.specs.own.Held.{Held, room_after}
-use Rattle.ls_desk.specs.own.Kept.{IsKept}
+use Rattle.ls_desk.specs.own.Held.{HeldJournal, room_after}
+use Rattle.ls_desk.specs.own.Kept.{IsDeskKept}
 use Rattle.ls_desk.specs.own.Writes.{Writes}
 
-pub outs_length : (es : List Entry) (os : List Out) → AreOutsFor es os → length os ≡ length es
+pub outs_length : (es : List OutboxEntry) (os : List Out) → AreOutsFor es os → length os ≡ length es
 unfolding AreOutsFor
 outs_length [] [] h = refl
 outs_length [] (o ∷ os) h = absurd h
 outs_length (e ∷ es) [] h = absurd h
 outs_length (e ∷ es) (o ∷ os) h = let t = outs_length es os h.1 in omega arith
 
-pub outs_append : (es fs : List Entry) (os ps : List Out) → AreOutsFor es os → AreOutsFor fs ps → AreOutsFor (es ++ fs) (os ++ ps)
+pub outs_append : (es fs : List OutboxEntry) (os ps : List Out) → AreOutsFor es os → AreOutsFor fs ps → AreOutsFor (es ++ fs) (os ++ ps)
 unfolding AreOutsFor
 outs_append [] fs [] ps h g = g
 outs_append [] fs (o ∷ os) ps h g = absurd h
@@ -49,7 +49,7 @@ no_outs : AreOutsFor [] []
 unfolding AreOutsFor
 no_outs = tt
 
-by_outs : (b : Bool) (es : List Entry) (os : List Out) → AreOutsFor es os → AreOutsFor (cond b es []) (cond b os [])
+by_outs : (b : Bool) (es : List OutboxEntry) (os : List Out) → AreOutsFor es os → AreOutsFor (cond b es []) (cond b os [])
 by_outs true es os h = h
 by_outs false es os h = no_outs
 
@@ -88,7 +88,7 @@ record Goes (B : Base) (J : List Event) (C : Counts) (x : Option State) (e : Eve
   pub journal : J' ≡ journal_after x J ++ e ∷ []
   pub state : replay_from B'.state J' ≡ step (replay_from B.state J) e
   pub counts : C' ≡ count_one C e
-  pub kept : IsKept B' J' C' N' O' longest most room'
+  pub kept : IsDeskKept B' J' C' N' O' longest most room'
 
 is_le : (a b : ℕ) → nat_le a b ≡ true → a ≤ b
 is_le a b h = grind (arith, nat_tests)
@@ -106,7 +106,7 @@ record Ready (B : Base) (J : List Event) (C : Counts) (s : State) (e : Event) (l
   pub past : (past : List Event) × IsPast most B past
   pub legal : IsLegalFrom most (total B.counts) B.state J
   pub cut : IsCutAt longest (J ++ e ∷ [])
-  pub counts_are : C ≡ counted B.counts J
+  pub counts_are : C ≡ counted_with B.counts J
   pub checkpoints : B.checkpoints ≤ total B.counts
   pub earlier : total B.counts ≤ total C
   pub first_is : B.checkpoints ≡ 0 → B ≡ first
@@ -120,7 +120,7 @@ pushed : (B : Base) (J : List Event) (C : Counts) (s : State) (e : Event) (N N' 
     → N.next_version ≤ total C + 1 → N.next_ticket ≤ total C + 1
     → total C + 1 + length O' ≤ most
     → length J + 1 + length O' ≤ room'
-    → IsKept B (J ++ e ∷ []) (count_one C e) N' O' longest most room'
+    → IsDeskKept B (J ++ e ∷ []) (count_one C e) N' O' longest most room'
 pushed B J C s e N N' O' longest most room' ready stepped versions tickets used reserved =
     let now : step s e ≡ replay_from B.state (J ++ e ∷ []) = sym (replay_push B.state J e ∙ ap (λ (x : State). step x e) ready.state) in
     let H : State → Type 0 = λ x. Holds x N' O' in
@@ -156,7 +156,7 @@ pushed B J C s e N N' O' longest most room' ready stepped versions tickets used 
 -- the journal goes on
 on : (B : Base) (J : List Event) (C : Counts) (N : Present) (O : List Out) (longest most room : ℕ) (e : Event)
     (N' : Present) (O' : List Out) (room' : ℕ)
-    → IsKept B J C N O longest most room
+    → IsDeskKept B J C N O longest most room
     → (longest ≤ length J → is_client e ≡ false)
     → Stepped (replay_from B.state J) e N N' O'
     → total C + 1 + length O' ≤ most
@@ -187,7 +187,7 @@ cut_one (suc longest) e h = tt
 -- the journal begins anew
 anew : (B : Base) (J : List Event) (C : Counts) (N : Present) (O : List Out) (longest most room : ℕ) (e : Event)
     (N' : Present) (O' : List Out) (room' : ℕ)
-    → IsKept B J C N O longest most room
+    → IsDeskKept B J C N O longest most room
     → longest ≤ length J
     → Stepped (replay_from B.state J) e N N' O'
     → total C + 1 + length O' ≤ most
@@ -239,7 +239,7 @@ long_some true true n m s z long is = (is_le n m long, same_state s z is)
 
 goes : (B : Base) (J : List Event) (C : Counts) (N : Present) (O : List Out) (longest most room : ℕ) (x : Option State) (e : Event)
     (B' : Base) (J' : List Event) (C' : Counts) (N' : Present) (O' : List Out) (room' : ℕ)
-    → IsKept B J C N O longest most room
+    → IsDeskKept B J C N O longest most room
     → x ≡ fresh_for (seen B J O longest most []) e
     → Stepped (replay_from B.state J) e N N' O'
     → B' ≡ base_after x C B
@@ -263,7 +263,7 @@ goes B J C N O longest most room (Some z) e B' J' C' N' O' room' kept is_x stepp
 
 enters : (B : Base) (J : List Event) (C : Counts) (N : Present) (O : List Out) (longest most room : ℕ) (x : Option State) (e : Event)
     (B' : Base) (J' : List Event) (C' : Counts) (N' : Present) (O' : List Out) (room' : ℕ) (D D' : List Event)
-    → IsKept B J C N O longest most room
+    → IsDeskKept B J C N O longest most room
     → x ≡ fresh_for (seen B J O longest most []) e
     → Goes B J C x e B' J' C' N' O' longest most room'
     → IsEndedBy x J D D'
@@ -289,7 +289,7 @@ left_by x J J1 D D1 D' same_j same_d left =
 
 -- what a desk holds is what the state has that contracts see
 pub stands : (h : History) (N : Present) (O : List Out) (longest most : ℕ) (d : Seen)
-    → IsKept h.base h.events.items h.counts N O longest most h.events.room
+    → IsDeskKept h.base h.events.items h.counts N O longest most h.events.room
     → seen h.base h.events.items O longest most h.events.ended ≡ d
     → Holds (state_of d) N O
 stands h N O longest most d kept view =
@@ -305,7 +305,7 @@ stands h N O longest most d kept view =
 
 -- no more is used than may be
 pub few_of : (h : History) (N : Present) (O : List Out) (longest most : ℕ) (d : Seen)
-    → IsKept h.base h.events.items h.counts N O longest most h.events.room
+    → IsDeskKept h.base h.events.items h.counts N O longest most h.events.room
     → seen h.base h.events.items O longest most h.events.ended ≡ d
     → used d ≤ d.max_events
 few_of h N O longest most d kept view =
@@ -316,13 +316,13 @@ few_of h N O longest most d kept view =
 
 -- a desk has entered an event: its invariant holds, and contracts see the event
 pub record Entered (d : Seen) (e : Event) (h : History) (N : Present) (O : List Out) (longest most : ℕ) : Type 0 where
-  pub kept : IsKept h.base h.events.items h.counts N O longest most h.events.room
+  pub kept : IsDeskKept h.base h.events.items h.counts N O longest most h.events.room
   pub enters : Enters d (seen h.base h.events.items O longest most h.events.ended) e
 
 -- The event was written into a journal in which room had been made.
-pub entered : (h : History) (N : Present) (O : List Out) (longest most : ℕ) (d : Seen) (x : Option State) (e w : Event) (j : Held) (h' : History)
+pub entered : (h : History) (N : Present) (O : List Out) (longest most : ℕ) (d : Seen) (x : Option State) (e w : Event) (j : HeldJournal) (h' : History)
     (N' : Present) (O' : List Out)
-    → IsKept h.base h.events.items h.counts N O longest most h.events.room
+    → IsDeskKept h.base h.events.items h.counts N O longest most h.events.room
     → seen h.base h.events.items O longest most h.events.ended ≡ d
     → x ≡ fresh_for d e
     → Stepped (state_of d) e N N' O'
@@ -351,12 +351,12 @@ entered h N O longest most d x e w j h' N' O' kept view is_x stepped same_j same
 -- nothing has changed, but there is room
 pub kept_room : (B : Base) (J : List Event) (C : Counts) (N : Present) (O : List Out) (longest most room : ℕ)
     (J' : List Event) (N' : Present) (O' : List Out) (room' : ℕ)
-    → IsKept B J C N O longest most room
+    → IsDeskKept B J C N O longest most room
     → N'.documents.items ≡ N.documents.items → N'.waiting.items ≡ N.waiting.items → N'.next_version ≡ N.next_version → N'.next_ticket ≡ N.next_ticket
-    → O' ≡ O → J' ≡ J → room ≤ room' → IsKept B J' C N' O' longest most room'
+    → O' ≡ O → J' ≡ J → room ≤ room' → IsDeskKept B J' C N' O' longest most room'
 kept_room B J C N O longest most room J' N' O' room' kept same_d same_w same_v same_t same_o same_j more =
-    let P : List Event → Type 0 = λ js. IsKept B js C N' O' longest most room' in
-    let Q : List Out → Type 0 = λ os. IsKept B J C N' os longest most room' in
+    let P : List Event → Type 0 = λ js. IsDeskKept B js C N' O' longest most room' in
+    let Q : List Out → Type 0 = λ os. IsDeskKept B J C N' os longest most room' in
     subst P (sym same_j) (subst Q (sym same_o) (record {
       documents_are = same_d ∙ kept.documents_are;
       waiting_are = same_w ∙ kept.waiting_are;
@@ -381,7 +381,7 @@ kept_room B J C N O longest most room J' N' O' room' kept same_d same_w same_v s
 
 -- ---- the present state, from what a desk holds
 
-entry_is : (e : Entry) (o : Out) → IsOutFor e o → WereTaken (e ∷ []) → entry_for o ≡ e
+entry_is : (e : OutboxEntry) (o : Out) → IsOutFor e o → WereTaken (e ∷ []) → entry_for o ≡ e
 unfolding IsOutFor WereTaken
 entry_is (Body body) o is taken = ap entry_for is
 entry_is (Failure ticket id code) o is taken = ap entry_for is
@@ -391,19 +391,19 @@ entry_is (Outcome w) o is taken = ap entry_for is.1 ∙ by w w.request is.0 refl
     by w None done r a taken = λ i. Outcome (record { ticket = a.ticket i; ask = a.ask i; uri = w.uri; version = w.version; label = w.label; text = a.text i; encoding = a.encoding i; request = sym r i; taken = sym taken i })
     by w (Some q) done r a taken = λ i. Outcome (record { ticket = a.ticket i; ask = a.ask i; uri = w.uri; version = w.version; label = w.label; text = a.text i; encoding = a.encoding i; request = sym r i; taken = sym taken i })
 
-first_taken : (e : Entry) (es : List Entry) → WereTaken (e ∷ es) → WereTaken (e ∷ [])
+first_taken : (e : OutboxEntry) (es : List OutboxEntry) → WereTaken (e ∷ es) → WereTaken (e ∷ [])
 unfolding WereTaken
 first_taken (Body body) es h = tt
 first_taken (Failure ticket id code) es h = tt
 first_taken (Outcome w) es h = (h.0, tt)
 
-later_taken : (e : Entry) (es : List Entry) → WereTaken (e ∷ es) → WereTaken es
+later_taken : (e : OutboxEntry) (es : List OutboxEntry) → WereTaken (e ∷ es) → WereTaken es
 unfolding WereTaken
 later_taken (Body body) es h = h
 later_taken (Failure ticket id code) es h = h
 later_taken (Outcome w) es h = h.1
 
-entries_are : (es : List Entry) (os : List Out) → AreOutsFor es os → WereTaken es → map entry_for os ≡ es
+entries_are : (es : List OutboxEntry) (os : List Out) → AreOutsFor es os → WereTaken es → map entry_for os ≡ es
 unfolding AreOutsFor
 entries_are [] [] h taken = refl
 entries_are [] (o ∷ os) h taken = absurd h
@@ -414,7 +414,7 @@ state_taken : (B : Base) (J : List Event) (past : List Event) (most : ℕ) → I
 state_taken B J past most is = let P : State → Type 0 = λ s. WereTaken s.unsent in subst P (past_state most B past J is) (taken_all (past ++ J))
 
 pub state_is : (B : Base) (J : List Event) (C : Counts) (N : Present) (O : List Out) (longest most room : ℕ)
-    → IsKept B J C N O longest most room
+    → IsDeskKept B J C N O longest most room
     → record { documents = N.documents.items; waiting = N.waiting.items; unsent = map entry_for O; next_version = N.next_version; next_ticket = N.next_ticket } ≡ replay_from B.state J
 state_is B J C N O longest most room kept =
     let es = entries_are (replay_from B.state J).unsent O kept.outs (state_taken B J kept.past.0 most kept.past.1) in

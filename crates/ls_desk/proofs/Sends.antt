@@ -9,8 +9,8 @@ use Rattle.ls_machine.specs.declared.event.Event.TheVariants.{Sent}
 use Rattle.ls_machine.specs.declared.event.Out.{Out}
 use Rattle.ls_machine.specs.declared.state.Waiting.{Waiting}
 use Rattle.ls_machine.specs.declared.state.Request.{Request}
-use Rattle.ls_machine.specs.declared.state.Entry.{Entry}
-use Rattle.ls_machine.specs.declared.state.Entry.TheVariants.{Body, Failure, Outcome}
+use Rattle.ls_machine.specs.declared.state.OutboxEntry.{OutboxEntry}
+use Rattle.ls_machine.specs.declared.state.OutboxEntry.TheVariants.{Body, Failure, Outcome}
 use Rattle.ls_machine.specs.Machine.{step, IsPossible, rest, first_ticket, ticket_of}
 use Rattle.ls_machine.specs.declared.base.Base.{Base}
 use Rattle.ls_machine.specs.declared.base.Counts.{Counts}
@@ -20,13 +20,13 @@ use Rattle.ls_machine.specs.Journal.{replay_from, IsLegalFrom, IsPast}
 use Rattle.ls_desk.specs.Stands.{Enters, IsOutFor, AreOutsFor, Seen, Sends, StandsAt, Answers, out_of, state_of, ticket_of_out}
 use Rattle.ls_desk.specs.declared.present.Present.{Present}
 use Rattle.ls_desk.specs.declared.history.History.{History}
-use Rattle.ls_desk.specs.own.Kept.{IsKept}
+use Rattle.ls_desk.specs.own.Kept.{IsDeskKept}
 use Rattle.ls_machine.specs.Laws.{WasEntryCurrent, WereEntriesCurrent}
 use Rattle.ls_desk.proofs.Grows.{Stepped, Holds, seen}
 use Rattle.ls_machine.proofs.Ordered.{ordered}
 use Rattle.ls_machine.proofs.Replays.{counted_none, cut_none, legal_none, past_first, past_legal, past_state}
 
-ticket_same : (e : Entry) (o : Out) → IsOutFor e o → ticket_of e ≡ ticket_of_out o
+ticket_same : (e : OutboxEntry) (o : Out) → IsOutFor e o → ticket_of e ≡ ticket_of_out o
 unfolding IsOutFor
 ticket_same (Body body) o is = rw is refl
 ticket_same (Failure ticket id code) o is = rw is refl
@@ -37,14 +37,14 @@ ticket_same (Outcome w) o is = rw is.1 (by_request w w.request is.0 is.2)
     by_request w (Some r) done a = sym a.ticket
 
 -- the first unsent entry, where a reply is there
-pub record Front (s : List Entry) (o : Out) (os : List Out) : Type 0 where
-  pub entry : Entry
-  pub others : List Entry
+pub record Front (s : List OutboxEntry) (o : Out) (os : List Out) : Type 0 where
+  pub entry : OutboxEntry
+  pub others : List OutboxEntry
   pub is : s ≡ entry ∷ others
   pub for : IsOutFor entry o
   pub outs : AreOutsFor others os
 
-pub front : (es : List Entry) (o : Out) (os : List Out) → AreOutsFor es (o ∷ os) → Front es o os
+pub front : (es : List OutboxEntry) (o : Out) (os : List Out) → AreOutsFor es (o ∷ os) → Front es o os
 unfolding AreOutsFor
 front [] o os h = absurd h
 front (e ∷ es) o os h = record { entry = e; others = es; is = refl; for = h.0; outs = h.1 }
@@ -59,7 +59,7 @@ pub sent : (s : State) (N : Present) (O : List Out) (o : Out) (os : List Out)
     → Stepped s (Sent (ticket_of_out o)) N N os
 unfolding step
 sent s N O o os kept f =
-    let P : List Entry → Type 0 = λ es. AreOutsFor (rest es) os in
+    let P : List OutboxEntry → Type 0 = λ es. AreOutsFor (rest es) os in
     record {
       possible = send_possible s o os f;
       holds = record {
@@ -74,15 +74,15 @@ sent s N O o os kept f =
     }
 
 pub kept_same : (B : Base) (J : List Event) (C : Counts) (N : Present) (O os : List Out) (longest most room : ℕ)
-    → IsKept B J C N O longest most room → O ≡ os → IsKept B J C N os longest most room
-kept_same B J C N O os longest most room kept same = let P : List Out → Type 0 = λ x. IsKept B J C N x longest most room in subst P same kept
+    → IsDeskKept B J C N O longest most room → O ≡ os → IsDeskKept B J C N os longest most room
+kept_same B J C N O os longest most room kept same = let P : List Out → Type 0 = λ x. IsDeskKept B J C N x longest most room in subst P same kept
 
-pub front_of : (es : List Entry) (O : List Out) (o : Out) (os : List Out) → AreOutsFor es O → O ≡ o ∷ os → Front es o os
+pub front_of : (es : List OutboxEntry) (O : List Out) (o : Out) (os : List Out) → AreOutsFor es O → O ≡ o ∷ os → Front es o os
 front_of es O o os outs is = let P : List Out → Type 0 = λ x. AreOutsFor es x in front es o os (subst P is outs)
 
-first_current : (js : List Event) (es : List Entry) (e : Entry) (fs : List Entry) → WereEntriesCurrent js es → es ≡ e ∷ fs → WasEntryCurrent js e
+first_current : (js : List Event) (es : List OutboxEntry) (e : OutboxEntry) (fs : List OutboxEntry) → WereEntriesCurrent js es → es ≡ e ∷ fs → WasEntryCurrent js e
 unfolding WereEntriesCurrent
-first_current js es e fs h is = let P : List Entry → Type 0 = λ xs. WereEntriesCurrent js xs in (subst P is h).0
+first_current js es e fs h is = let P : List OutboxEntry → Type 0 = λ xs. WereEntriesCurrent js xs in (subst P is h).0
 
 -- what was current in the events that led to a desk
 current_in : (B : Base) (J : List Event) (most : ℕ) (past : List Event) → IsPast most B past → IsLegalFrom most (total B.counts) B.state J → WereEntriesCurrent (past ++ J) (replay_from B.state J).unsent
@@ -91,7 +91,7 @@ current_in B J most past is legal =
     subst P (past_state most B past J is) (ordered most (past ++ J) (past_legal most B past J is legal)).unsent
 
 sends_from : (B : Base) (J : List Event) (C : Counts) (N : Present) (O : List Out) (longest most room : ℕ) (D : List Event) (new : Seen) (o : Out) (os : List Out)
-    → IsKept B J C N O longest most room
+    → IsDeskKept B J C N O longest most room
     → Front (replay_from B.state J).unsent o os
     → O ≡ o ∷ os
     → new.outbox ≡ os
@@ -105,7 +105,7 @@ sends_from B J C N O longest most room D new o os kept f is same went = record {
 }
 
 pub sends : (h : History) (N : Present) (O : List Out) (longest most : ℕ) (d new : Seen) (o : Out) (os : List Out)
-    → IsKept h.base h.events.items h.counts N O longest most h.events.room
+    → IsDeskKept h.base h.events.items h.counts N O longest most h.events.room
     → seen h.base h.events.items O longest most h.events.ended ≡ d
     → Front (state_of d).unsent o os
     → O ≡ o ∷ os
@@ -121,7 +121,7 @@ sends h N O longest most d new o os kept view f is same went =
 
 -- ---- the unsent entries by their numbers
 
-at_entry : (es : List Entry) (os : List Out) (i : ℕ) (o : Out) → AreOutsFor es os → slice_get os i ≡ Some o → (e : Entry) × (slice_get es i ≡ Some e) × IsOutFor e o
+at_entry : (es : List OutboxEntry) (os : List Out) (i : ℕ) (o : Out) → AreOutsFor es os → slice_get os i ≡ Some o → (e : OutboxEntry) × (slice_get es i ≡ Some e) × IsOutFor e o
 unfolding AreOutsFor
 at_entry [] [] i o h is = absurd (cc)
 at_entry [] (p ∷ ps) i o h is = absurd h
@@ -129,14 +129,14 @@ at_entry (e ∷ es) [] i o h is = absurd h
 at_entry (e ∷ es) (p ∷ ps) zero o h is = let P : Out → Type 0 = λ x. IsOutFor e x in (e, refl, subst P (same_Some p o is) h.0)
 at_entry (e ∷ es) (p ∷ ps) (suc i) o h is = at_entry es ps i o h.1 is
 
-entry_at : (js : List Event) (es : List Entry) (i : ℕ) (e : Entry) → WereEntriesCurrent js es → slice_get es i ≡ Some e → WasEntryCurrent js e
+entry_at : (js : List Event) (es : List OutboxEntry) (i : ℕ) (e : OutboxEntry) → WereEntriesCurrent js es → slice_get es i ≡ Some e → WasEntryCurrent js e
 unfolding WereEntriesCurrent
 entry_at js [] i e h is = absurd (cc)
-entry_at js (x ∷ es) zero e h is = let P : Entry → Type 0 = λ y. WasEntryCurrent js y in subst P (same_Some x e is) h.0
+entry_at js (x ∷ es) zero e h is = let P : OutboxEntry → Type 0 = λ y. WasEntryCurrent js y in subst P (same_Some x e is) h.0
 entry_at js (x ∷ es) (suc i) e h is = entry_at js es i e h.1 is
 
 pub stands_at : {A : Type 0} (f : A → Out) (r : Option A) (B : Base) (J : List Event) (C : Counts) (N : Present) (O : List Out) (longest most room : ℕ) (D : List Event) (i : ℕ)
-    → IsKept B J C N O longest most room
+    → IsDeskKept B J C N O longest most room
     → is_some r ≡ ltb i (length O) → IfSome r (λ x. f x ≡ get_or O i (f x)) → IfSome r (λ x. StandsAt (seen B J O longest most D) i (f x))
 stands_at f None B J C N O longest most room D i kept some is = tt
 stands_at f (Some x) B J C N O longest most room D i kept some is =
@@ -146,13 +146,13 @@ stands_at f (Some x) B J C N O longest most room D i kept some is =
 
 -- a new desk
 pub kept_start : (B : Base) (J : List Event) (C : Counts) (N : Present) (O : List Out) (longest most room : ℕ)
-    → B ≡ first → J ≡ [] → C ≡ no_events → N.documents.items ≡ [] → N.waiting.items ≡ [] → N.next_version ≡ 1 → N.next_ticket ≡ 1 → O ≡ [] → 0 < longest → 0 < most → most < 18446744073709551615 → IsKept B J C N O longest most room
+    → B ≡ first → J ≡ [] → C ≡ no_events → N.documents.items ≡ [] → N.waiting.items ≡ [] → N.next_version ≡ 1 → N.next_ticket ≡ 1 → O ≡ [] → 0 < longest → 0 < most → most < 18446744073709551615 → IsDeskKept B J C N O longest most room
 unfolding AreOutsFor replay_from
 kept_start B J C N O longest most room b j c d w v t o least some few =
-    let P : Base → Type 0 = λ x. IsKept x J C N O longest most room in
-    let Q : List Event → Type 0 = λ x. IsKept first x C N O longest most room in
-    let R : Counts → Type 0 = λ x. IsKept first [] x N O longest most room in
-    let S : List Out → Type 0 = λ x. IsKept first [] no_events N x longest most room in
+    let P : Base → Type 0 = λ x. IsDeskKept x J C N O longest most room in
+    let Q : List Event → Type 0 = λ x. IsDeskKept first x C N O longest most room in
+    let R : Counts → Type 0 = λ x. IsDeskKept first [] x N O longest most room in
+    let S : List Out → Type 0 = λ x. IsDeskKept first [] no_events N x longest most room in
     subst P (sym b) (subst Q (sym j) (subst R (sym c) (subst S (sym o) (record {
       documents_are = d;
       waiting_are = w;

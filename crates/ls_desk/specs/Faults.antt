@@ -24,12 +24,12 @@ abbrev pub or_else : Bool → DeskFault → Option DeskFault → Option DeskFaul
 or_else b fault next = if b then Some fault else next
 
 -- The events of the session and the unsent entries leave no room for this many more.
-abbrev pub is_full : Seen → ℕ → Bool
-is_full d need = nat_lt d.max_events (total (counts_of d) + length (state_of d).unsent + need)
+abbrev pub is_session_full : Seen → ℕ → Bool
+is_session_full d need = nat_lt d.max_events (total (counts_of d) + length (state_of d).unsent + need)
 
 -- the session is full, where there is no room for this many more
 abbrev pub full_fault : Seen → ℕ → Option DeskFault
-full_fault d need = or_else (is_full d need) SessionFull None
+full_fault d need = or_else (is_session_full d need) SessionFull None
 
 -- of an open whose text is made already, and isn't too large then: the uri is open, 256 documents are, or the session is full
 abbrev pub open_shared_fault : Seen → List ℕ → Option DeskFault
@@ -69,7 +69,7 @@ cancel_fault d id = full_fault d (1 + length (told_if_found request_cancelled (f
 
 -- of a take, which needs room only where there is a job to take
 abbrev pub take_fault : Seen → Option DeskFault
-take_fault d = or_else (is_some (find is_queued (state_of d).waiting) && is_full d 1) SessionFull None
+take_fault d = or_else (is_some (find is_queued (state_of d).waiting) && is_session_full d 1) SessionFull None
 
 -- of a job that is given back: no worker has one with this ticket, or there is no room for the event
 abbrev pub give_back_fault : Seen → ℕ → Option DeskFault

@@ -12,12 +12,12 @@ use Rattle.ls_machine.specs.declared.event.Out.{Out}
 use Rattle.ls_machine.specs.declared.event.Out.TheVariants.{Said, Replied, Failed, Findings}
 use Rattle.ls_machine.specs.declared.state.Request.{Request}
 use Rattle.ls_machine.specs.declared.state.Waiting.{Waiting}
-use Rattle.ls_machine.specs.declared.state.Entry.{Entry}
-use Rattle.ls_machine.specs.declared.state.Entry.TheVariants.{Body, Failure, Outcome}
+use Rattle.ls_machine.specs.declared.state.OutboxEntry.{OutboxEntry}
+use Rattle.ls_machine.specs.declared.state.OutboxEntry.TheVariants.{Body, Failure, Outcome}
 use Rattle.ls_machine.specs.declared.state.State.{State}
 use Rattle.ls_desk.specs.Anew.{IsEndedBy, base_after, journal_after}
 use Rattle.ls_machine.specs.Machine.{IsPossible, step, is_ended, content_modified, internal_error}
-use Rattle.ls_machine.specs.Counts.{count_one, counted, first, is_client, total}
+use Rattle.ls_machine.specs.Counts.{count_one, counted_with, first, is_client, total}
 use Rattle.ls_machine.specs.Journal.{replay_from, IsCutAt, IsLegalFrom, IsPast}
 use Rattle.ls_machine.specs.Laws.{WasEntryCurrent}
 
@@ -42,7 +42,7 @@ state_of d = replay_from d.base.state d.journal
 
 -- how many events of each kind there were over the session
 abbrev pub counts_of : Seen → Counts
-counts_of d = counted d.base.counts d.journal
+counts_of d = counted_with d.base.counts d.journal
 
 -- all events of the session and the unsent replies, together
 abbrev pub used : Seen → ℕ
@@ -69,7 +69,7 @@ out_of w None done = Findings w.uri w.version w.label done
 out_of w (Some r) done = Replied r.id w.uri w.version w.label r.links done
 
 -- This leaves the desk for an entry. A body and a failure leave as they are; for a job that has run a run leaves that answers it.
-unfoldable pub IsOutFor : Entry → Out → Type 0
+unfoldable pub IsOutFor : OutboxEntry → Out → Type 0
 IsOutFor (Body body) out = out ≡ Said body
 IsOutFor (Failure ticket id code) out = out ≡ Failed ticket id code
 IsOutFor (Outcome w) out = (done : Told) × (out ≡ out_of w w.request done) × Answers w done
@@ -82,7 +82,7 @@ ticket_of_out (Replied id uri version label links done) = done.ticket
 ticket_of_out (Findings uri version label done) = done.ticket
 
 -- These replies leave for these entries, one for one and in their order.
-unfoldable pub AreOutsFor : List Entry → List Out → Type 0
+unfoldable pub AreOutsFor : List OutboxEntry → List Out → Type 0
 AreOutsFor [] [] = Unit {0}
 AreOutsFor [] (o ∷ os) = ⊥
 AreOutsFor (e ∷ es) [] = ⊥
@@ -125,13 +125,13 @@ pub record IsSound (d : Seen) : Type 0 where
 
 -- Some legal list of events led to the base, and in it and the journal behind it the text of an outcome was current when it was asked
 -- about.
-abbrev pub WasCurrentAt : Seen → Entry → Type 0
+abbrev pub WasCurrentAt : Seen → OutboxEntry → Type 0
 WasCurrentAt d e = (past : List Event) × IsPast d.max_events d.base past × WasEntryCurrent (past ++ d.journal) e
 
 -- The unsent entry with this number, from 0, is what the reply stands for, so its answer is right for the text and the question of its job;
 -- and that text was current when it was asked about.
 abbrev pub StandsAt : Seen → ℕ → Out → Type 0
-StandsAt d at out = (e : Entry) × (slice_get (state_of d).unsent at ≡ Some e) × IsOutFor e out × WasCurrentAt d e
+StandsAt d at out = (e : OutboxEntry) × (slice_get (state_of d).unsent at ≡ Some e) × IsOutFor e out × WasCurrentAt d e
 
 -- ---- what a call leaves
 
@@ -166,6 +166,6 @@ pub record Enters (old new : Seen) (e : Event) : Type 0 where
 pub record Sends (old new : Seen) (out : Out) : Type 0 where
   pub enters : Enters old new (Sent (ticket_of_out out))
   pub first : old.outbox ≡ out ∷ new.outbox
-  pub stands_for : (e : Entry) × (es : List Entry) × ((state_of old).unsent ≡ e ∷ es) × IsOutFor e out
+  pub stands_for : (e : OutboxEntry) × (es : List OutboxEntry) × ((state_of old).unsent ≡ e ∷ es) × IsOutFor e out
   -- the text of an outcome was current when it was asked
   pub was_current : WasCurrentAt old stands_for.0

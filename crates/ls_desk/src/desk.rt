@@ -15,7 +15,7 @@ ghost use Rattle.ls_machine.specs.Machine.{is_open, document_of, is_held, is_que
 ghost use Rattle.ls_machine.specs.Counts.{first, no_events};
 ghost use Rattle.ls_machine.specs.Same.{is_for};
 ghost use Rattle.ls_desk.specs.Stands.{Enters, Sends, IsSound, StandsAt, counts_of, failures, fresh, state_of, used};
-ghost use Rattle.ls_desk.specs.Faults.{Accepts, open_fault, open_shared_fault, sized_open_fault, Refuses, end_fault, is_full, finish_fault, request_fault, take_fault, give_back_fault, cancel_fault, full_fault, kept_of, IsFirstCause, IsJobOf, Takes};
+ghost use Rattle.ls_desk.specs.Faults.{Accepts, open_fault, open_shared_fault, sized_open_fault, Refuses, end_fault, is_session_full, finish_fault, request_fault, take_fault, give_back_fault, cancel_fault, full_fault, kept_of, IsFirstCause, IsJobOf, Takes};
 ghost use Rattle.ls_desk.specs.Door.{text_closed_by};
 
 use crate::history::History;
@@ -82,13 +82,13 @@ impl Drop for Desk {
 
 impl Model for Desk {
     ghost use Rattle.ls_desk.specs.Stands.{Seen};
-    ghost use Rattle.ls_desk.specs.own.Kept.{IsKept};
+    ghost use Rattle.ls_desk.specs.own.Kept.{IsDeskKept};
 
     ghost Value = { Seen };
 
     ghost view = { λ d. record { base = d.history.base; journal = d.history.events.items; outbox = d.outbox.items; max_journal = d.max_journal; max_events = d.max_events; ended = d.history.events.ended } };
 
-    ghost invariant = { λ d. IsKept d.history.base d.history.events.items d.history.counts d.present d.outbox.items d.max_journal d.max_events d.history.events.room };
+    ghost invariant = { λ d. IsDeskKept d.history.base d.history.events.items d.history.counts d.present d.outbox.items d.max_journal d.max_events d.history.events.room };
 }
 
 impl Desk {
@@ -166,7 +166,7 @@ impl Desk {
 
     /// Whether there is no room for an event and these replies.
     fn is_full(&self, replies: usize) -> bool
-        ensures full { result ≡ is_full self.now (1 + replies) }
+        ensures full { result ≡ is_session_full self.now (1 + replies) }
         ensures room { result ≡ false → used self.now + (1 + replies) ≤ self.now.max_events }
     {
         self.max_events - (self.history.counts.total() + self.outbox.len() as u64) <= replies as u64

@@ -69,9 +69,9 @@ pub struct Journal {
 
 impl Model for Journal {
     ghost use Rattle.std.specs.Prelude.{◌≡◌, [], vec_capacity};
-    ghost use Rattle.ls_desk.specs.own.Held.{Held};
+    ghost use Rattle.ls_desk.specs.own.Held.{HeldJournal};
 
-    ghost Value = { Held };
+    ghost Value = { HeldJournal };
 
     ghost view = { λ j. record { items = j.events.items; room = vec_capacity j.events; next = vec_capacity j.next; ended = j.past.items } };
 

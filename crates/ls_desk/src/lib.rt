@@ -31,8 +31,8 @@ mod texts;
 pub use desk::{Desk, MOST_EVENTS, MOST_JOURNAL};
 pub use journal::give_room_back;
 pub use ls_machine::{
-    Boxed, Counts, DeskFault, Document, Entry, Event, Kept, Out, Request, SharedSnapshot, State,
-    Waiting,
+    Boxed, Counts, DeskFault, Document, Event, Kept, Out, OutboxEntry, Request, SharedSnapshot,
+    State, Waiting,
 };
 pub use outs::ticket_of;
 pub use texts::snapshot_of_text;

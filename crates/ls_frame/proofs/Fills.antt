@@ -6,7 +6,7 @@ use Rattle.ls_frame.specs.Faults.{fault_of}
 use Rattle.ls_frame.specs.own.Heads.{HeadIs}
 use Rattle.ls_frame.specs.own.Rests.{IsQuiet, RestIs, FrontIs, SplitIs}
 use Rattle.ls_frame.specs.declared.header.Head.TheVariants.{Whole}
-use Rattle.ls_frame.specs.declared.front.Front.TheVariants.{Rest as Behind, Frame}
+use Rattle.ls_frame.specs.declared.front.AtFront.TheVariants.{Rest as Behind, Frame}
 use Rattle.ls_frame.specs.declared.front.Rest.{Rest}
 use Rattle.ls_frame.specs.declared.front.Rest.TheVariants.{Open}
 use Rattle.ls_frame.proofs.Wholes.{take_past, header_fault, short_no_frame}

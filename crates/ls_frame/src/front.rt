@@ -17,7 +17,7 @@ pub enum Rest {
 }
 
 /// What the bytes begin with.
-pub enum Front {
+pub enum AtFront {
     /// No frame that is whole.
     Rest(Rest),
     /// A frame, whose content goes from the first place up to the second.
@@ -35,18 +35,18 @@ pub struct Taken {
 }
 
 /// Looks at the frame that the bytes begin with.
-fn front_of(bytes: &[u8]) -> Front
+fn front_of(bytes: &[u8]) -> AtFront
     ensures { FrontIs bytes.now result }
 {
     match head_of(bytes) {
-        Head::Open => Front::Rest(Rest::Open(0)),
-        Head::Faulty(fault) => Front::Rest(Rest::Faulty(fault)),
+        Head::Open => AtFront::Rest(Rest::Open(0)),
+        Head::Faulty(fault) => AtFront::Rest(Rest::Faulty(fault)),
         Head::Whole(header, content) => {
             let end = header + content;
             if bytes.len() < end {
-                return Front::Rest(Rest::Open(end));
+                return AtFront::Rest(Rest::Open(end));
             }
-            Front::Frame(header, end)
+            AtFront::Frame(header, end)
         }
     }
 }
@@ -61,8 +61,8 @@ fn split(alloc: Global, bytes: &[u8], found: &mut Vec<Vec<u8>>) -> Result<(usize
     'frames: loop {
         let behind = &bytes[at..];
         match front_of(behind) {
-            Front::Rest(rest) => return Ok((at, rest)),
-            Front::Frame(from, end) => {
+            AtFront::Rest(rest) => return Ok((at, rest)),
+            AtFront::Frame(from, end) => {
                 let content = Vec::from_slice(alloc, &behind[from..end])?;
                 found.push(content)?;
                 at += end;

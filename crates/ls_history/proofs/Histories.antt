@@ -11,28 +11,28 @@ use Rattle.ls_machine.specs.declared.event.Out.{Out}
 use Rattle.ls_history.specs.declared.history_entry.HistoryEntry.{HistoryEntry}
 use Rattle.ls_history.specs.declared.history_entry.HistoryEntry.TheVariants.{Heard, Left, Stopped, Worked}
 use Rattle.ls_history.specs.declared.history_entry.Stop.{Stop}
-use Rattle.ls_history.specs.History.{IsLegalFrom, MayHappen, replay}
+use Rattle.ls_history.specs.History.{IsLegalHistoryFrom, MayHappen, replay_entries}
 use Rattle.ls_history.specs.Places.{Place, beginning, happens}
 use Rattle.ls_history.specs.Told.{LieBeside, heard_of, heard_of_one, out_of_one, outs_of}
 use Rattle.ls_history.proofs.Fronts.{prefix_whole}
 
-pub replay_more : (p : Place) (xs ys : List HistoryEntry) → replay p (xs ++ ys) ≡ replay (replay p xs) ys
+pub replay_more : (p : Place) (xs ys : List HistoryEntry) → replay_entries p (xs ++ ys) ≡ replay_entries (replay_entries p xs) ys
 replay_more p [] ys = refl
 replay_more p (x ∷ xs) ys = replay_more (happens p x) xs ys
 
-pub legal_more : (p : Place) (xs : List HistoryEntry) (h : HistoryEntry) → IsLegalFrom p xs → MayHappen (replay p xs) h → IsLegalFrom p (xs ++ h ∷ [])
+pub legal_more : (p : Place) (xs : List HistoryEntry) (h : HistoryEntry) → IsLegalHistoryFrom p xs → MayHappen (replay_entries p xs) h → IsLegalHistoryFrom p (xs ++ h ∷ [])
 legal_more p [] h legal may = (may, tt)
 legal_more p (x ∷ xs) h legal may = (legal.0, legal_more (happens p x) xs h legal.1 may)
 
 -- what a legal history begins with is legal
-pub legal_before : (p : Place) (xs ys : List HistoryEntry) → IsLegalFrom p (xs ++ ys) → IsLegalFrom p xs
+pub legal_before : (p : Place) (xs ys : List HistoryEntry) → IsLegalHistoryFrom p (xs ++ ys) → IsLegalHistoryFrom p xs
 legal_before p [] ys legal = tt
 legal_before p (x ∷ xs) ys legal = (legal.0, legal_before (happens p x) xs ys legal.1)
 
 -- where a desk stands once one more entry has happened
-pub led_more : (before after : Place) (log new : List HistoryEntry) (h : HistoryEntry) → before ≡ replay beginning log → new ≡ log ++ h ∷ [] → after ≡ happens before h → after ≡ replay beginning new
+pub led_more : (before after : Place) (log new : List HistoryEntry) (h : HistoryEntry) → before ≡ replay_entries beginning log → new ≡ log ++ h ∷ [] → after ≡ happens before h → after ≡ replay_entries beginning new
 led_more before after log new h led added goes =
-    goes ∙ (ap (λ (p : Place). happens p h) led ∙ sym (ap (replay beginning) added ∙ replay_more beginning log (h ∷ [])))
+    goes ∙ (ap (λ (p : Place). happens p h) led ∙ sym (ap (replay_entries beginning) added ∙ replay_more beginning log (h ∷ [])))
 
 -- what stands behind a beginning with as many of a kind has none of it
 same_part : {X : Type 0} (f : HistoryEntry → Option X) (xs ys : List HistoryEntry) → IsPrefix xs ys → length (filter_map f ys) ≡ length (filter_map f xs) → filter_map f ys ≡ filter_map f xs

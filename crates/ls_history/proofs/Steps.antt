@@ -11,8 +11,8 @@ use Rattle.ls_machine.specs.declared.event.Event.{Event}
 use Rattle.ls_machine.specs.declared.event.Event.TheVariants.{Opened, Changed, Closed, Asked, Cancelled, Said, Took, Returned, Finished, Sent}
 use Rattle.ls_machine.specs.declared.event.Out.{Out}
 use Rattle.ls_machine.specs.declared.event.Out.TheVariants as out
-use Rattle.ls_machine.specs.declared.state.Entry.{Entry}
-use Rattle.ls_machine.specs.declared.state.Entry.TheVariants.{Body, Failure, Outcome}
+use Rattle.ls_machine.specs.declared.state.OutboxEntry.{OutboxEntry}
+use Rattle.ls_machine.specs.declared.state.OutboxEntry.TheVariants.{Body, Failure, Outcome}
 use Rattle.ls_machine.specs.declared.state.Request.{Request}
 use Rattle.ls_machine.specs.declared.state.Waiting.{Waiting}
 use Rattle.ls_machine.proofs.Steps.{goes_on, nothing_left, steps_few}
@@ -21,9 +21,9 @@ use Rattle.ls_machine.proofs.ShortTexts.{AreShort, Each, IsShortEntry, short_leg
 use Rattle.ls_desk.specs.Stands.{IsOutFor, out_of, ticket_of_out}
 use Rattle.ls_history.specs.declared.history_entry.HistoryEntry.{HistoryEntry}
 use Rattle.ls_history.specs.declared.history_entry.HistoryEntry.TheVariants.{Began, Heard, Left, Stopped, Worked}
-use Rattle.ls_history.specs.History.{IsLegal, IsLegalFrom, IsReplyOut, IsRoomy, MayHappen, replay}
+use Rattle.ls_history.specs.History.{IsLegalHistory, IsLegalHistoryFrom, IsReplyOut, IsRoomy, MayHappen, replay_entries}
 use Rattle.ls_history.specs.Places.{Place, beginning, happens}
-use Rattle.ls_history.specs.Progress.{AreSteps, CanGoOn, HasRoom, SchedulesEnd, StepsAreFew, WorkGoesOn, is_step, left_at}
+use Rattle.ls_history.specs.Progress.{AreSteps, BoardCanGoOn, HasRoomForSteps, SchedulesEnd, BoardStepsAreFew, BoardWorkGoesOn, is_board_step, steps_left}
 use Rattle.ls_history.specs.Told.{heard_of, heard_of_one}
 use Rattle.ls_history.proofs.Histories.{legal_more, replay_more}
 use Rattle.ls_history.proofs.Journals.{histories_journals}
@@ -34,10 +34,10 @@ few_by : (p : Place) (e : Event) → machine.is_step e ≡ true → IsPossible p
 few_by p e is possible = steps_few p.state e is possible
 
 -- what stays within the room when fewer are left by one event more
-room_by : (p : Place) (e : Event) → machine.left (step p.state e) < machine.left p.state → HasRoom p → HasRoom (happens p (Worked e))
+room_by : (p : Place) (e : Event) → machine.left (step p.state e) < machine.left p.state → HasRoomForSteps p → HasRoomForSteps (happens p (Worked e))
 room_by p e fewer room = omega (arith, fewer, room, total_one p.counts e)
 
-pub few_steps : StepsAreFew
+pub few_steps : BoardStepsAreFew
 few_steps p (Began most) is may = absurd (cc (is))
 few_steps p (Heard e reply) is may = absurd (cc (is))
 few_steps p (Stopped stop) is may = absurd (cc (is))
@@ -55,16 +55,16 @@ few_steps p (Worked (Sent ticket)) is may = absurd (cc (is))
 
 -- ---- the texts of a legal history's place are short
 
-short_by : (o : Option ℕ) (log : List HistoryEntry) → (replay beginning log).limit ≡ o → IsLegal log → HasRoom (replay beginning log) → 0 < left_at (replay beginning log) → AreShort (replay beginning log).state
+short_by : (o : Option ℕ) (log : List HistoryEntry) → (replay_entries beginning log).limit ≡ o → IsLegalHistory log → HasRoomForSteps (replay_entries beginning log) → 0 < steps_left (replay_entries beginning log) → AreShort (replay_entries beginning log).state
 short_by None log limit legal room more =
-    let most : unwrap_or (replay beginning log).limit 0 ≡ 0 = ap (λ (l : Option ℕ). unwrap_or l 0) limit in
+    let most : unwrap_or (replay_entries beginning log).limit 0 ≡ 0 = ap (λ (l : Option ℕ). unwrap_or l 0) limit in
     absurd (omega (arith, most, room, more))
 short_by (Some most) log limit legal room more =
     let is = histories_journals most log legal limit in subst AreShort is.state_is (short_legal most _ is.legal)
 
 -- ---- what can leave
 
-record Leaving (e : Entry) : Type 0 where
+record Leaving (e : OutboxEntry) : Type 0 where
   leaves : Out
   is_for : IsOutFor e leaves
   ticket_is : ticket_of e ≡ ticket_of_out leaves
@@ -73,7 +73,7 @@ ticket_of_run : (w : Waiting) (r : Option Request) (done : Told) → done.ticket
 ticket_of_run w None done = refl
 ticket_of_run w (Some r) done = refl
 
-some_out : (e : Entry) → IsShortEntry e → Leaving e
+some_out : (e : OutboxEntry) → IsShortEntry e → Leaving e
 unfolding IsOutFor
 some_out (Body body) h = record { leaves = out.Said body; is_for = refl; ticket_is = refl }
 some_out (Failure ticket id code) h = record { leaves = out.Failed ticket id code; is_for = refl; ticket_is = refl }
@@ -87,7 +87,7 @@ some_out (Outcome w) h =
     }
 
 -- the first entry has a reply
-reply_out : (p : Place) (es : List Entry) (ticket : ℕ) → p.state.unsent ≡ es → first_ticket es ≡ Some ticket → Each IsShortEntry es → (out : Out) × IsReplyOut p out
+reply_out : (p : Place) (es : List OutboxEntry) (ticket : ℕ) → p.state.unsent ≡ es → first_ticket es ≡ Some ticket → Each IsShortEntry es → (out : Out) × IsReplyOut p out
 unfolding IsPossible
 reply_out p [] ticket is first short = absurd (cc (first))
 reply_out p (e ∷ es) ticket is first short =
@@ -97,30 +97,30 @@ reply_out p (e ∷ es) ticket is first short =
 -- ---- so something can be done
 
 -- an event of a worker or of the writer that leaves fewer has room
-roomy_by : (p : Place) (e : Event) → machine.left (step p.state e) < machine.left p.state → HasRoom p → IsRoomy (happens p (Worked e))
+roomy_by : (p : Place) (e : Event) → machine.left (step p.state e) < machine.left p.state → HasRoomForSteps p → IsRoomy (happens p (Worked e))
 roomy_by p e fewer room = omega (arith, fewer, room, total_one p.counts e)
 
-takes : (p : Place) → HasRoom p → ((worker : ℕ) → IsPossible p.state (Took worker)) → (worker : ℕ) → MayHappen p (Worked (Took worker))
+takes : (p : Place) → HasRoomForSteps p → ((worker : ℕ) → IsPossible p.state (Took worker)) → (worker : ℕ) → MayHappen p (Worked (Took worker))
 takes p room possible worker = let e = Took worker in ((possible worker, refl), roomy_by p e (few_by p e refl (possible worker)) room)
 
-finishes : (p : Place) (ticket : ℕ) → HasRoom p → ((failed : Bool) → IsPossible p.state (Finished ticket failed)) → (failed : Bool) → MayHappen p (Worked (Finished ticket failed))
+finishes : (p : Place) (ticket : ℕ) → HasRoomForSteps p → ((failed : Bool) → IsPossible p.state (Finished ticket failed)) → (failed : Bool) → MayHappen p (Worked (Finished ticket failed))
 finishes p ticket room possible failed = let e = Finished ticket failed in ((possible failed, refl), roomy_by p e (few_by p e refl (possible failed)) room)
 
-leaves : (p : Place) (ticket : ℕ) → HasRoom p → AreShort p.state → IsPossible p.state (Sent ticket) → (out : Out) × MayHappen p (Left out)
+leaves : (p : Place) (ticket : ℕ) → HasRoomForSteps p → AreShort p.state → IsPossible p.state (Sent ticket) → (out : Out) × MayHappen p (Left out)
 unfolding IsPossible
 leaves p ticket room short possible =
     let o = reply_out p p.state.unsent ticket refl possible short.unsent in
     let e = Sent (ticket_of_out o.0) in
     (o.0, (o.1, roomy_by p e (few_by p e refl o.1.0) room))
 
-goes : (p : Place) → HasRoom p → AreShort p.state → machine.CanGoOn p.state → CanGoOn p
+goes : (p : Place) → HasRoomForSteps p → AreShort p.state → machine.CanGoOn p.state → BoardCanGoOn p
 goes p room short (inl take) = inl (takes p room take)
 goes p room short (inr (inl finish)) = inr (inl (finish.0, finishes p finish.0 room finish.1))
 goes p room short (inr (inr send)) = inr (inr (leaves p send.0 room short send.1))
 
-pub histories_go_on : WorkGoesOn
+pub histories_go_on : BoardWorkGoesOn
 histories_go_on log legal room more =
-    let p = replay beginning log in
+    let p = replay_entries beginning log in
     goes p room (short_by p.limit log refl legal room more) (goes_on p.state more)
 
 -- ---- and all comes to an end
@@ -129,9 +129,9 @@ histories_go_on log legal room more =
 record Step (p : Place) : Type 0 where
   entry : HistoryEntry
   may : MayHappen p entry
-  is : is_step entry ≡ true
+  is : is_board_step entry ≡ true
 
-one_step : (p : Place) → CanGoOn p → Step p
+one_step : (p : Place) → BoardCanGoOn p → Step p
 one_step p (inl take) = record { entry = Worked (Took 0); may = take 0; is = refl }
 one_step p (inr (inl finish)) = record { entry = Worked (Finished finish.0 false); may = finish.1 false; is = refl }
 one_step p (inr (inr send)) = record { entry = Left send.0; may = send.1; is = refl }
@@ -140,59 +140,59 @@ one_step p (inr (inr send)) = record { entry = Left send.0; may = send.1; is = r
 record Ends (log : List HistoryEntry) : Type 0 where
   more : List HistoryEntry
   steps : AreSteps more
-  few : length more ≤ left_at (replay beginning log)
-  legal : IsLegal (log ++ more)
-  none : left_at (replay beginning (log ++ more)) ≡ 0
+  few : length more ≤ steps_left (replay_entries beginning log)
+  legal : IsLegalHistory (log ++ more)
+  none : steps_left (replay_entries beginning (log ++ more)) ≡ 0
 
-ended : (log : List HistoryEntry) → IsLegal log → left_at (replay beginning log) ≡ 0 → Ends log
+ended : (log : List HistoryEntry) → IsLegalHistory log → steps_left (replay_entries beginning log) ≡ 0 → Ends log
 ended log legal none = record {
   more = [];
   steps = tt;
   few = omega arith;
-  legal = subst IsLegal (sym (append-nil log)) legal;
-  none = ap (λ (l : List HistoryEntry). left_at (replay beginning l)) (append-nil log) ∙ none;
+  legal = subst IsLegalHistory (sym (append-nil log)) legal;
+  none = ap (λ (l : List HistoryEntry). steps_left (replay_entries beginning l)) (append-nil log) ∙ none;
 }
 
-after : (log : List HistoryEntry) (h : HistoryEntry) → is_step h ≡ true → left_at (replay beginning (log ++ h ∷ [])) < left_at (replay beginning log) → Ends (log ++ h ∷ []) → Ends log
+after : (log : List HistoryEntry) (h : HistoryEntry) → is_board_step h ≡ true → steps_left (replay_entries beginning (log ++ h ∷ [])) < steps_left (replay_entries beginning log) → Ends (log ++ h ∷ []) → Ends log
 after log h is fewer ends =
     let all : (log ++ h ∷ []) ++ ends.more ≡ log ++ h ∷ ends.more = append_assoc log (h ∷ []) ends.more in
     record {
       more = h ∷ ends.more;
       steps = (is, ends.steps);
       few = omega (arith, fewer, ends.few);
-      legal = subst IsLegal all ends.legal;
-      none = ap (λ (l : List HistoryEntry). left_at (replay beginning l)) (sym all) ∙ ends.none;
+      legal = subst IsLegalHistory all ends.legal;
+      none = ap (λ (l : List HistoryEntry). steps_left (replay_entries beginning l)) (sym all) ∙ ends.none;
     }
 
-step_on : (log : List HistoryEntry) → IsLegal log → HasRoom (replay beginning log) → 0 < left_at (replay beginning log)
-    → ((next : List HistoryEntry) → IsLegal next → HasRoom (replay beginning next) → left_at (replay beginning next) < left_at (replay beginning log) → Ends next) → Ends log
+step_on : (log : List HistoryEntry) → IsLegalHistory log → HasRoomForSteps (replay_entries beginning log) → 0 < steps_left (replay_entries beginning log)
+    → ((next : List HistoryEntry) → IsLegalHistory next → HasRoomForSteps (replay_entries beginning next) → steps_left (replay_entries beginning next) < steps_left (replay_entries beginning log) → Ends next) → Ends log
 step_on log legal room more later =
-    let p = replay beginning log in
+    let p = replay_entries beginning log in
     let s = one_step p (histories_go_on log legal room more) in
     let few = few_steps p s.entry s.is s.may in
-    let led : happens p s.entry ≡ replay beginning (log ++ s.entry ∷ []) = sym (replay_more beginning log (s.entry ∷ [])) in
-    let fewer = subst (λ (q : Place). left_at q < left_at p) led few.0 in
-    after log s.entry s.is fewer (later (log ++ s.entry ∷ []) (legal_more beginning log s.entry legal s.may) (subst HasRoom led (few.1 room)) fewer)
+    let led : happens p s.entry ≡ replay_entries beginning (log ++ s.entry ∷ []) = sym (replay_more beginning log (s.entry ∷ [])) in
+    let fewer = subst (λ (q : Place). steps_left q < steps_left p) led few.0 in
+    after log s.entry s.is fewer (later (log ++ s.entry ∷ []) (legal_more beginning log s.entry legal s.may) (subst HasRoomForSteps led (few.1 room)) fewer)
 
-ends_within : (fuel : ℕ) (log : List HistoryEntry) → IsLegal log → HasRoom (replay beginning log) → left_at (replay beginning log) ≤ fuel → Ends log
+ends_within : (fuel : ℕ) (log : List HistoryEntry) → IsLegalHistory log → HasRoomForSteps (replay_entries beginning log) → steps_left (replay_entries beginning log) ≤ fuel → Ends log
 ends_within zero log legal room within = ended log legal (omega (arith, within))
 ends_within (suc fuel) log legal room within = ⊎_elim
     (λ more. step_on log legal room more (λ next fine roomy fewer. ends_within fuel next fine roomy (omega (arith, within, fewer))))
     (λ none. ended log legal (omega (arith, none)))
-    (cases_lt 0 (left_at (replay beginning log)))
+    (cases_lt 0 (steps_left (replay_entries beginning log)))
 
 -- ---- whichever steps were made
 
-pub legal_behind : (p : Place) (xs ys : List HistoryEntry) → IsLegalFrom p (xs ++ ys) → IsLegalFrom (replay p xs) ys
+pub legal_behind : (p : Place) (xs ys : List HistoryEntry) → IsLegalHistoryFrom p (xs ++ ys) → IsLegalHistoryFrom (replay_entries p xs) ys
 legal_behind p [] ys legal = legal
 legal_behind p (x ∷ xs) ys legal = legal_behind (happens p x) xs ys legal.1
 
 -- they have left fewer, and there is room for these
 record Kept (p q : Place) (made : List HistoryEntry) : Type 0 where
-  room : HasRoom q
-  few : length made + left_at q ≤ left_at p
+  room : HasRoomForSteps q
+  few : length made + steps_left q ≤ steps_left p
 
-kept_by : (p : Place) (made : List HistoryEntry) → IsLegalFrom p made → AreSteps made → HasRoom p → Kept p (replay p made) made
+kept_by : (p : Place) (made : List HistoryEntry) → IsLegalHistoryFrom p made → AreSteps made → HasRoomForSteps p → Kept p (replay_entries p made) made
 kept_by p [] legal steps room = record { room = room; few = omega arith }
 kept_by p (h ∷ hs) legal steps room =
     let one = few_steps p h steps.0 legal.0 in
@@ -201,11 +201,11 @@ kept_by p (h ∷ hs) legal steps room =
 
 pub schedules : SchedulesEnd
 schedules log made legal steps room =
-    let p = replay beginning log in
-    let led : replay p made ≡ replay beginning (log ++ made) = sym (replay_more beginning log made) in
+    let p = replay_entries beginning log in
+    let led : replay_entries p made ≡ replay_entries beginning (log ++ made) = sym (replay_more beginning log made) in
     let kept = subst (λ (q : Place). Kept p q made) led (kept_by p made (legal_behind beginning log made legal) steps room) in
-    let ends = ends_within (left_at (replay beginning (log ++ made))) (log ++ made) legal kept.room (omega arith) in
-    let none = nothing_left (replay beginning (log ++ made ++ ends.more)).state ends.none in
+    let ends = ends_within (steps_left (replay_entries beginning (log ++ made))) (log ++ made) legal kept.room (omega arith) in
+    let none = nothing_left (replay_entries beginning (log ++ made ++ ends.more)).state ends.none in
     record {
       more = ends.more;
       steps = ends.steps;

@@ -16,9 +16,9 @@ use Rattle.ls_machine.specs.declared.state.State.{State}
 use Rattle.ls_desk.specs.Door.{client_fault, entered_at}
 use Rattle.ls_history.specs.declared.history_entry.HistoryEntry.{HistoryEntry}
 use Rattle.ls_history.specs.declared.history_entry.HistoryEntry.TheVariants.{Began, Heard, Left, Stopped, Worked}
-use Rattle.ls_history.specs.History.{IsLegalFrom, IsReply, is_workers, replay}
+use Rattle.ls_history.specs.History.{IsLegalHistoryFrom, IsReply, is_workers, replay_entries}
 use Rattle.ls_history.specs.Laws.{BeginningsAgree, HistoriesCount, RepliesAreUnique, answer_of_one}
-use Rattle.ls_history.specs.Places.{Place, beginning, desk_at, entered, happens, heard_at}
+use Rattle.ls_history.specs.Places.{Place, beginning, desk_at, place_behind, happens, heard_at}
 use Rattle.ls_history.specs.Told.{heard_of, outs_of}
 use Rattle.ls_history.proofs.Histories.{beside_heard, beside_outs}
 
@@ -120,13 +120,13 @@ none_of_workers (Returned ticket) c is = (refl, refl)
 none_of_workers (Finished ticket failed) c is = (refl, refl)
 none_of_workers (Sent ticket) c is = absurd (cc (is))
 
-counted_from : (p : Place) (log : List HistoryEntry) → IsLegalFrom p log → Counted p (replay p log) log
+counted_from : (p : Place) (log : List HistoryEntry) → IsLegalHistoryFrom p log → Counted p (replay_entries p log) log
 unfolding answered
 counted_from p [] legal = record { client = omega arith; sent = omega arith }
 counted_from p (Began most ∷ log) legal = let more = counted_from (happens p (Began most)) log legal.1 in record { client = more.client; sent = more.sent }
 counted_from p (Heard e (Ok a) ∷ log) legal =
     let more = counted_from (heard_at p e (Ok a)) log legal.1 in
-    let there : heard_at p e (Ok a) ≡ entered p (Some (entered_at p.state e)) = ap (entered p) legal.0.0.2 in
+    let there : heard_at p e (Ok a) ≡ place_behind p (Some (entered_at p.state e)) = ap (place_behind p) legal.0.0.2 in
     let one = one_of_client p.state e p.counts in
     record {
       client = omega (arith, more.client, ap (λ (q : Place). q.counts.client) there, one.0);

@@ -11,12 +11,12 @@ use Rattle.ls_machine.specs.declared.event.DeskFault.TheVariants.{Memory}
 use Rattle.ls_machine.specs.declared.event.Event.{Event}
 use Rattle.ls_machine.specs.declared.event.Event.TheVariants.{Sent, Took, Returned, Finished}
 use Rattle.ls_machine.specs.declared.event.Out.{Out}
-use Rattle.ls_machine.specs.declared.state.Entry.{Entry}
+use Rattle.ls_machine.specs.declared.state.OutboxEntry.{OutboxEntry}
 use Rattle.ls_desk.specs.Door.{client_fault, entered_at}
 use Rattle.ls_desk.specs.Stands.{IsOutFor, IsSound, Seen, counts_of, ticket_of_out}
 use Rattle.ls_history.specs.declared.history_entry.HistoryEntry.{HistoryEntry}
 use Rattle.ls_history.specs.declared.history_entry.HistoryEntry.TheVariants.{Began, Heard, Left, Stopped, Worked}
-use Rattle.ls_history.specs.Places.{Place, beginning, desk_at, happens, place_of}
+use Rattle.ls_history.specs.Places.{Place, beginning, desk_at, happens, place_of_desk}
 
 -- An answer stands where nothing is against the event, and is the machine's. A refusal stands where it is the first whose cause holds.
 -- Memory may be refused anywhere.
@@ -26,7 +26,7 @@ IsReply p e (Err fault) = (fault ≡ Memory) ⊎ (client_fault (desk_at p) e ≡
 
 -- The reply is for the first unsent entry there: that of a job that has run has the answer for the job's own text.
 abbrev pub IsReplyOut : Place → Out → Type 0
-IsReplyOut p out = IsPossible p.state (Sent (ticket_of_out out)) × ((e : Entry) × (es : List Entry) × (p.state.unsent ≡ e ∷ es) × IsOutFor e out)
+IsReplyOut p out = IsPossible p.state (Sent (ticket_of_out out)) × ((e : OutboxEntry) × (es : List OutboxEntry) × (p.state.unsent ≡ e ∷ es) × IsOutFor e out)
 
 -- The event is one that a worker makes.
 abbrev pub is_workers : Event → Bool
@@ -36,12 +36,12 @@ is_workers (Finished ticket failed) = true
 is_workers _ = false
 
 -- The entry is possible there. A history begins but once, and a board may always be asked to end.
-abbrev pub IsNext : Place → HistoryEntry → Type 0
-IsNext p (Began most) = p ≡ beginning
-IsNext p (Heard e reply) = IsReply p e reply
-IsNext p (Left out) = IsReplyOut p out
-IsNext p (Worked event) = IsPossible p.state event × (is_workers event ≡ true)
-IsNext p (Stopped stop) = Unit {0}
+abbrev pub IsNextEntry : Place → HistoryEntry → Type 0
+IsNextEntry p (Began most) = p ≡ beginning
+IsNextEntry p (Heard e reply) = IsReply p e reply
+IsNextEntry p (Left out) = IsReplyOut p out
+IsNextEntry p (Worked event) = IsPossible p.state event × (is_workers event ≡ true)
+IsNextEntry p (Stopped stop) = Unit {0}
 
 -- The events so far and the unsent entries are within the limit.
 abbrev pub IsRoomy : Place → Type 0
@@ -49,35 +49,35 @@ IsRoomy p = total p.counts + length p.state.unsent ≤ unwrap_or p.limit 0
 
 -- The entry is possible there, and behind it the events and the unsent entries are within the limit.
 abbrev pub MayHappen : Place → HistoryEntry → Type 0
-MayHappen p h = IsNext p h × IsRoomy (happens p h)
+MayHappen p h = IsNextEntry p h × IsRoomy (happens p h)
 
 -- where entries lead, one after the other
-abbrev pub replay : Place → List HistoryEntry → Place
-replay p [] = p
-replay p (h ∷ hs) = replay (happens p h) hs
+abbrev pub replay_entries : Place → List HistoryEntry → Place
+replay_entries p [] = p
+replay_entries p (h ∷ hs) = replay_entries (happens p h) hs
 
 -- Each entry may happen where it stands, from this place on.
-abbrev pub IsLegalFrom : Place → List HistoryEntry → Type 0
-IsLegalFrom p [] = Unit {0}
-IsLegalFrom p (h ∷ hs) = MayHappen p h × IsLegalFrom (happens p h) hs
+abbrev pub IsLegalHistoryFrom : Place → List HistoryEntry → Type 0
+IsLegalHistoryFrom p [] = Unit {0}
+IsLegalHistoryFrom p (h ∷ hs) = MayHappen p h × IsLegalHistoryFrom (happens p h) hs
 
 -- Each entry may happen where it stands, from the beginning on.
-abbrev pub IsLegal : List HistoryEntry → Type 0
-IsLegal log = IsLegalFrom beginning log
+abbrev pub IsLegalHistory : List HistoryEntry → Type 0
+IsLegalHistory log = IsLegalHistoryFrom beginning log
 
 -- The history has led to where the desk stands: to its state, its counts and its limit.
 abbrev pub HasLedTo : Seen → List HistoryEntry → Type 0
-HasLedTo d log = place_of d ≡ replay beginning log
+HasLedTo d log = place_of_desk d ≡ replay_entries beginning log
 
 -- The history is legal, and has led to where the desk stands.
 pub record IsHistoryOf (d : Seen) (log : List HistoryEntry) : Type 0 where
-  pub legal : IsLegal log
+  pub legal : IsLegalHistory log
   pub led : HasLedTo d log
 
 -- The entry is possible where the history has led, and leads from there to where the desk stands.
 pub record LeadsOn (log : List HistoryEntry) (h : HistoryEntry) (d : Seen) : Type 0 where
-  pub next : IsNext (replay beginning log) h
-  pub led : place_of d ≡ happens (replay beginning log) h
+  pub next : IsNextEntry (replay_entries beginning log) h
+  pub led : place_of_desk d ≡ happens (replay_entries beginning log) h
 
 -- Each count fits 64 bits.
 pub record AreSmall (counts : Counts) : Type 0 where

@@ -1,6 +1,6 @@
 -- What holds of every history.
 use Rattle.std.specs.Prelude.{◌≡◌, ◌≢◌, ◌⊎◌, ◌++◌, ◌∷◌, [], ℕ, List, Result, Ok, Err, Option, Some, None, filter_map, is_some, length, true}
-use Rattle.ls_machine.specs.Counts.{counted, no_events}
+use Rattle.ls_machine.specs.Counts.{counted_with, no_events}
 use Rattle.ls_machine.specs.Journal as journal
 use Rattle.ls_machine.specs.declared.client.ClientAnswer.{ClientAnswer}
 use Rattle.ls_machine.specs.declared.client.ClientEvent.{ClientEvent}
@@ -12,7 +12,7 @@ use Rattle.ls_desk.specs.Stands.{Enters, IsSound, Seen, Sends, counts_of}
 use Rattle.ls_history.specs.declared.history_entry.HistoryEntry.{HistoryEntry}
 use Rattle.ls_history.specs.declared.history_entry.HistoryEntry.TheVariants.{Began, Heard, Left, Stopped, Worked}
 use Rattle.ls_history.specs.Ends.{is_over, stop_of}
-use Rattle.ls_history.specs.History.{IsHistoryOf, IsLegal, IsReply, is_workers, replay}
+use Rattle.ls_history.specs.History.{IsHistoryOf, IsLegalHistory, IsReply, is_workers, replay_entries}
 use Rattle.ls_history.specs.Places.{Place, beginning}
 use Rattle.ls_history.specs.Told.{LieBeside, events_of, heard_of, outs_of}
 
@@ -22,11 +22,11 @@ use Rattle.ls_history.specs.Told.{LieBeside, events_of, heard_of, outs_of}
 pub record IsJournal (most : ℕ) (log : List HistoryEntry) (place : Place) : Type 0 where
   pub legal : journal.IsLegal most (events_of log)
   pub state_is : journal.replay (events_of log) ≡ place.state
-  pub counts_are : counted no_events (events_of log) ≡ place.counts
+  pub counts_are : counted_with no_events (events_of log) ≡ place.counts
 
 -- So it is of each legal history, within the limit with which it began, over any number of checkpoints.
 abbrev pub HistoriesAreJournals : Type 0
-HistoriesAreJournals = (most : ℕ) (log : List HistoryEntry) → IsLegal log → (replay beginning log).limit ≡ Some most → IsJournal most log (replay beginning log)
+HistoriesAreJournals = (most : ℕ) (log : List HistoryEntry) → IsLegalHistory log → (replay_entries beginning log).limit ≡ Some most → IsJournal most log (replay_entries beginning log)
 
 -- ---- what a desk did has a history
 
@@ -62,7 +62,7 @@ answer_of_one (e, Err fault) = None
 -- As many of the client's events had an answer, and as many replies left, as the machine counts.
 abbrev pub HistoriesCount : Type 0
 HistoriesCount =
-    (log : List HistoryEntry) → IsLegal log → (length (filter_map answer_of_one (heard_of log)) ≡ (replay beginning log).counts.client) × (length (outs_of log) ≡ (replay beginning log).counts.sent)
+    (log : List HistoryEntry) → IsLegalHistory log → (length (filter_map answer_of_one (heard_of log)) ≡ (replay_entries beginning log).counts.client) × (length (outs_of log) ≡ (replay_entries beginning log).counts.sent)
 
 -- Two beginnings of one history that have as many of a kind have the same of that kind: of the client's events, or of the replies.
 abbrev pub BeginningsAgree : Type 0

@@ -36,12 +36,12 @@ event_of_reply e (Ok answer) = entry_of e answer
 event_of_reply e (Err fault) = None
 
 -- the machine's event that an entry stands for, if there is one
-abbrev pub event_of : HistoryEntry → Option Event
-event_of (Began most) = None
-event_of (Heard e reply) = event_of_reply e reply
-event_of (Left out) = Some (Sent (ticket_of_out out))
-event_of (Worked event) = Some event
-event_of (Stopped stop) = None
+abbrev pub machine_event_of : HistoryEntry → Option Event
+machine_event_of (Began most) = None
+machine_event_of (Heard e reply) = event_of_reply e reply
+machine_event_of (Left out) = Some (Sent (ticket_of_out out))
+machine_event_of (Worked event) = Some event
+machine_event_of (Stopped stop) = None
 
 -- these events, and before them one more, if there is one
 abbrev pub with_event : Option Event → List Event → List Event
@@ -51,7 +51,7 @@ with_event (Some e) events = e ∷ events
 -- the machine's events of a history, one behind the other
 abbrev pub events_of : List HistoryEntry → List Event
 events_of [] = []
-events_of (h ∷ hs) = with_event (event_of h) (events_of hs)
+events_of (h ∷ hs) = with_event (machine_event_of h) (events_of hs)
 
 -- Of two lists one begins the other, as two beginnings of one history do.
 abbrev pub LieBeside : List HistoryEntry → List HistoryEntry → Type 0

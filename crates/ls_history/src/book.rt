@@ -1,10 +1,10 @@
 //! The history that all threads share, and what each of them has seen of it.
 ghost use Rattle.std.specs.Prelude.{◌≡◌, ◌++◌, ◌∷◌, [], MatchBool, None, length, nat_le};
-ghost use Rattle.ls_history.specs.History.{HasLedTo, IsDesk, IsLegal, LeadsOn, MayHappen, replay};
+ghost use Rattle.ls_history.specs.History.{HasLedTo, IsDesk, IsLegalHistory, LeadsOn, MayHappen, replay_entries};
 ghost use Rattle.ls_history.specs.Places.{beginning};
 ghost use Rattle.ls_history.specs.Told.{LieBeside};
 ghost use mathlib.Core.List.{IsPrefix};
-ghost use Rattle.ls_history.specs.own.Rules.{head_of};
+ghost use Rattle.ls_history.specs.own.Rules.{first_word};
 ghost use Rattle.ls_history.specs.declared.history_entry.HistoryEntry.TheVariants.{Began, Heard};
 
 use crate::entries::{Begins, Hearing, Hears};
@@ -39,13 +39,13 @@ pub struct BlankHistory {
 impl Model for BlankHistory {
     ghost use Rattle.std.specs.Prelude.{◌≡◌, []};
     ghost use Rattle.logbook.specs.Pages.{Book};
-    ghost use Rattle.ls_history.specs.own.Rules.{head_of};
+    ghost use Rattle.ls_history.specs.own.Rules.{first_word};
 
     ghost Value = { Book };
 
     ghost view = { λ b. b.seen.book };
 
-    ghost invariant = { λ b. (b.seen.log ≡ []) × (b.head ≡ head_of b.seen.book) };
+    ghost invariant = { λ b. (b.seen.log ≡ []) × (b.head ≡ first_word b.seen.book) };
 }
 
 impl BlankHistory {
@@ -83,7 +83,7 @@ impl BlankHistory {
 struct SharedWord<C: BookName> {
     head: Word<HistoryEntry, u64, Law>,
     of: PhantomData<C>,
-    ghost head_is: { head ≡ head_of C.book },
+    ghost head_is: { head ≡ first_word C.book },
 }
 
 /// A beginning of the history that was seen. Contracts see it as its entries.
@@ -154,7 +154,7 @@ impl<C: BookName> Front<C> {
     /// What was seen of a history is legal: each entry may happen where those before it have led. Nothing is done at run time: it is called
     /// for what its contract says.
     pub fn legal(&self)
-        ensures { IsLegal self.now }
+        ensures { IsLegalHistory self.now }
     {
         let mut known = self.seen.again();
         known.learn(&self.seen);
@@ -167,7 +167,7 @@ impl<C: BookName> Front<C> {
         about: &X,
     ) -> bool
         requires plain { M.state about.now ≡ None }
-        requires possible { MayHappen (replay beginning self.old) (M.ask about.now) }
+        requires possible { MayHappen (replay_entries beginning self.old) (M.ask about.now) }
         ensures { MatchBool result (self.new ≡ self.old ++ M.ask about.now ∷ []) (self.new ≡ self.old) }
     {
         if self.count == u64::MAX {
@@ -198,7 +198,7 @@ impl<C: BookName> Front<C> {
         about: &X,
     )
         requires plain { M.state about.now ≡ None }
-        requires possible { MayHappen (replay beginning self.old) (M.ask about.now) }
+        requires possible { MayHappen (replay_entries beginning self.old) (M.ask about.now) }
         ensures { self.new ≡ self.old ++ M.ask about.now ∷ [] }
     {
         for _ in rt.forever() {

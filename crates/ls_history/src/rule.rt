@@ -8,9 +8,9 @@ pub struct Law;
 impl Rule<HistoryEntry, u64> for Law {
     ghost use Rattle.std.specs.Prelude.{[]};
     ghost use base.Fml.{ftrue};
-    ghost use Rattle.ls_history.specs.own.Rules.{IsKept};
+    ghost use Rattle.ls_history.specs.own.Rules.{IsLogKept};
 
-    ghost holds = { λ cells log. IsKept cells log };
+    ghost holds = { λ cells log. IsLogKept cells log };
 
     ghost first = { [] };
 

@@ -16,8 +16,8 @@ use Rattle.ls_machine.specs.declared.state.Document.{Document}
 use Rattle.ls_machine.specs.declared.state.Waiting.{Waiting}
 use Rattle.ls_machine.specs.declared.state.Request.{Request}
 use Rattle.ls_machine.specs.declared.state.State.{State}
-use Rattle.ls_machine.specs.declared.state.Entry.{Entry}
-use Rattle.ls_machine.specs.declared.state.Entry.TheVariants.{Body, Failure, Outcome}
+use Rattle.ls_machine.specs.declared.state.OutboxEntry.{OutboxEntry}
+use Rattle.ls_machine.specs.declared.state.OutboxEntry.TheVariants.{Body, Failure, Outcome}
 use Rattle.ls_machine.specs.Machine.{start, step, IsPossible, document_of, edited_at, measured, is_for_id, asks_with, is_queued, is_held, on_first, without_first_job, with_taken, diagnosis, asked, told_to, told_if_found, request_cancelled, internal_error, content_modified, is_ended, ends, going_on, left_at, rest, first_ticket, ticket_of, put_text, close_text, ask_at}
 use Rattle.ls_machine.specs.Journal.{replay_from, replay, IsLegalFrom, IsLegal}
 use Rattle.ls_machine.specs.Client.{sent_ticket, sent_tickets}
@@ -47,7 +47,7 @@ no_request (Some r) h = absurd (cc)
 untold : List ℕ → Waiting → Bool
 untold uri w = is_ended uri w && is_none w.request
 
-close_head : (b : Bool) (r : Option Request) (code : ℤ) (t : ℕ) (w : Waiting) (ws : List Waiting) (es : List Entry)
+close_head : (b : Bool) (r : Option Request) (code : ℤ) (t : ℕ) (w : Waiting) (ws : List Waiting) (es : List OutboxEntry)
     → count_by (has_ticket t) (cond (not b) (w ∷ ws) ws) + count_by (is_told_of t) (cond b (told_to w.ticket code r) [] ++ es) + cond ((b && is_none r) && has_ticket t w) 1 0
     ≡ cond (has_ticket t w) 1 0 + count_by (has_ticket t) ws + count_by (is_told_of t) es
 close_head false r code t w ws es = let c = count_cons (has_ticket t) w ws in omega arith
@@ -117,7 +117,7 @@ unfolding counted_at
 told_count id t None f = refl
 told_count id t (Some w) f = told_head w.request id t w (f w refl)
 
-rest_count : (es : List Entry) (t ticket : ℕ) → first_ticket es ≡ Some ticket → count_by (is_told_of t) (rest es) + cond (ticket == t) 1 0 ≡ count_by (is_told_of t) es
+rest_count : (es : List OutboxEntry) (t ticket : ℕ) → first_ticket es ≡ Some ticket → count_by (is_told_of t) (rest es) + cond (ticket == t) 1 0 ≡ count_by (is_told_of t) es
 rest_count [] t ticket h = absurd (cc)
 rest_count (e ∷ es) t ticket h =
     let one : ℕ → ℕ = λ n. cond (n == t) 1 0 in

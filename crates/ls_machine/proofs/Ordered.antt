@@ -14,13 +14,13 @@ use Rattle.ls_machine.specs.declared.event.Event.TheVariants.{Opened, Changed, C
 use Rattle.ls_machine.specs.declared.state.Document.{Document}
 use Rattle.ls_machine.specs.declared.state.Waiting.{Waiting}
 use Rattle.ls_machine.specs.declared.state.Request.{Request}
-use Rattle.ls_machine.specs.declared.state.Entry.{Entry}
-use Rattle.ls_machine.specs.declared.state.Entry.TheVariants.{Body, Failure, Outcome}
+use Rattle.ls_machine.specs.declared.state.OutboxEntry.{OutboxEntry}
+use Rattle.ls_machine.specs.declared.state.OutboxEntry.TheVariants.{Body, Failure, Outcome}
 use Rattle.ls_machine.specs.Same.{id_eq}
 use Rattle.ls_machine.specs.declared.state.State.{State}
 use Rattle.ls_machine.specs.Machine.{start, step, IsPossible, is_named, document, document_of, others, edited_at, measured, is_for_id, asks_with, is_queued, is_held, on_first, without_first_job, with_taken, diagnosis, asked, told_to, told_if_found, told_end, request_cancelled, internal_error, content_modified, is_ended, end_of, ends, left_by, left_at, rest, put_text, close_text, ask_at, version_if}
 use Rattle.ls_machine.specs.Journal.{replay_from, replay, IsLegalFrom, IsLegal}
-use Rattle.ls_machine.specs.Laws.{IsMadeBy, WasAsked, WasCurrent, IsAlone, AreInOrder, WasEntryCurrent, WereEntriesCurrent, IsOrdered}
+use Rattle.ls_machine.specs.Laws.{IsMadeBy, WasAsked, WasCurrent, IsAlone, WereCurrentInOrder, WasEntryCurrent, WereEntriesCurrent, IsOrdered}
 use Rattle.ls_machine.proofs.Places.{found_passes, none_from}
 use Rattle.ls_machine.proofs.Replays.{replay_push}
 
@@ -120,38 +120,38 @@ alone_on (Some q) taken p ws h = none_on q.id taken p ws h
 
 -- ---- the order of the waiting jobs
 
-ordered_below : (js : List Event) (low less : ℕ) (ws : List Waiting) (high : ℕ) → less ≤ low → AreInOrder js low ws high → AreInOrder js less ws high
-unfolding AreInOrder
+ordered_below : (js : List Event) (low less : ℕ) (ws : List Waiting) (high : ℕ) → less ≤ low → WereCurrentInOrder js low ws high → WereCurrentInOrder js less ws high
+unfolding WereCurrentInOrder
 ordered_below js low less [] high below h = omega arith
 ordered_below js low less (w ∷ ws) high below h = (let l = h.0 in omega arith, h.1, h.2, h.3)
 
-ordered_last : (js : List Event) (low : ℕ) (ws : List Waiting) (high : ℕ) (w : Waiting) → AreInOrder js low ws high → w.ticket ≡ high → IsAlone w.request ws → WasCurrent js w
-    → AreInOrder js low (ws ++ w ∷ []) (high + 1)
-unfolding AreInOrder
+ordered_last : (js : List Event) (low : ℕ) (ws : List Waiting) (high : ℕ) (w : Waiting) → WereCurrentInOrder js low ws high → w.ticket ≡ high → IsAlone w.request ws → WasCurrent js w
+    → WereCurrentInOrder js low (ws ++ w ∷ []) (high + 1)
+unfolding WereCurrentInOrder
 ordered_last js low [] high w h is new current = (omega arith, alone w.request, current, omega arith)
 ordered_last js low (x ∷ ws) high w h is new current =
     (h.0, alone_last x.request ws w h.1 (new_head w.request x ws new), h.2, ordered_last js (x.ticket + 1) ws high w h.3 is (new_tail w.request x ws new) current)
 
-ordered_if : (js : List Event) (low : ℕ) (b : Bool) (w : Waiting) (xs : List Waiting) (high : ℕ) → low ≤ w.ticket → IsAlone w.request xs → WasCurrent js w → AreInOrder js (w.ticket + 1) xs high
-    → AreInOrder js low (cond b (w ∷ xs) xs) high
-unfolding AreInOrder
+ordered_if : (js : List Event) (low : ℕ) (b : Bool) (w : Waiting) (xs : List Waiting) (high : ℕ) → low ≤ w.ticket → IsAlone w.request xs → WasCurrent js w → WereCurrentInOrder js (w.ticket + 1) xs high
+    → WereCurrentInOrder js low (cond b (w ∷ xs) xs) high
+unfolding WereCurrentInOrder
 ordered_if js low true w xs high l alone current h = (l, alone, current, h)
 ordered_if js low false w xs high l alone current h = ordered_below js (w.ticket + 1) low xs high (omega arith) h
 
-ordered_filter : (js : List Event) (low : ℕ) (p : Waiting → Bool) (ws : List Waiting) (high : ℕ) → AreInOrder js low ws high → AreInOrder js low (filter p ws) high
-unfolding AreInOrder
+ordered_filter : (js : List Event) (low : ℕ) (p : Waiting → Bool) (ws : List Waiting) (high : ℕ) → WereCurrentInOrder js low ws high → WereCurrentInOrder js low (filter p ws) high
+unfolding WereCurrentInOrder
 ordered_filter js low p [] high h = h
 ordered_filter js low p (w ∷ ws) high h =
     ordered_if js low (p w) w (filter p ws) high h.0 (alone_filter w.request p ws h.1) h.2 (ordered_filter js (w.ticket + 1) p ws high h.3)
 
-ordered_unless : (js : List Event) (low : ℕ) (b : Bool) (w : Waiting) (ws xs : List Waiting) (high : ℕ) → low ≤ w.ticket → AreInOrder js (w.ticket + 1) ws high → IsAlone w.request xs → WasCurrent js w → AreInOrder js (w.ticket + 1) xs high
-    → AreInOrder js low (cond b ws (w ∷ xs)) high
-unfolding AreInOrder
+ordered_unless : (js : List Event) (low : ℕ) (b : Bool) (w : Waiting) (ws xs : List Waiting) (high : ℕ) → low ≤ w.ticket → WereCurrentInOrder js (w.ticket + 1) ws high → IsAlone w.request xs → WasCurrent js w → WereCurrentInOrder js (w.ticket + 1) xs high
+    → WereCurrentInOrder js low (cond b ws (w ∷ xs)) high
+unfolding WereCurrentInOrder
 ordered_unless js low true w ws xs high l h alone current k = ordered_below js (w.ticket + 1) low ws high (omega arith) h
 ordered_unless js low false w ws xs high l h alone current k = (l, alone, current, k)
 
-ordered_without : (js : List Event) (low : ℕ) (p : Waiting → Bool) (ws : List Waiting) (high : ℕ) → AreInOrder js low ws high → AreInOrder js low (without_first_job p ws) high
-unfolding AreInOrder
+ordered_without : (js : List Event) (low : ℕ) (p : Waiting → Bool) (ws : List Waiting) (high : ℕ) → WereCurrentInOrder js low ws high → WereCurrentInOrder js low (without_first_job p ws) high
+unfolding WereCurrentInOrder
 ordered_without js low p [] high h = h
 ordered_without js low p (w ∷ ws) high h =
     ordered_unless js low (p w) w ws (without_first_job p ws) high h.0 h.3 (alone_without w.request p ws h.1) h.2 (ordered_without js (w.ticket + 1) p ws high h.3)
@@ -181,14 +181,14 @@ current_marked js taken w c = record {
   document_is = c.document_is;
 }
 
-ordered_marked : (js : List Event) (low : ℕ) (taken b : Bool) (w : Waiting) (ws xs : List Waiting) (high : ℕ) → low ≤ w.ticket → IsAlone w.request ws → WasCurrent js w → AreInOrder js (w.ticket + 1) ws high → IsAlone w.request xs → AreInOrder js (w.ticket + 1) xs high
-    → AreInOrder js low (cond b (with_taken taken w ∷ ws) (w ∷ xs)) high
-unfolding AreInOrder
+ordered_marked : (js : List Event) (low : ℕ) (taken b : Bool) (w : Waiting) (ws xs : List Waiting) (high : ℕ) → low ≤ w.ticket → IsAlone w.request ws → WasCurrent js w → WereCurrentInOrder js (w.ticket + 1) ws high → IsAlone w.request xs → WereCurrentInOrder js (w.ticket + 1) xs high
+    → WereCurrentInOrder js low (cond b (with_taken taken w ∷ ws) (w ∷ xs)) high
+unfolding WereCurrentInOrder
 ordered_marked js low taken true w ws xs high l alone current h other k = (l, alone, current_marked js taken w current, h)
 ordered_marked js low taken false w ws xs high l alone current h other k = (l, other, current, k)
 
-ordered_on : (js : List Event) (low : ℕ) (taken : Bool) (p : Waiting → Bool) (ws : List Waiting) (high : ℕ) → AreInOrder js low ws high → AreInOrder js low (on_first p (with_taken taken) ws) high
-unfolding AreInOrder
+ordered_on : (js : List Event) (low : ℕ) (taken : Bool) (p : Waiting → Bool) (ws : List Waiting) (high : ℕ) → WereCurrentInOrder js low ws high → WereCurrentInOrder js low (on_first p (with_taken taken) ws) high
+unfolding WereCurrentInOrder
 ordered_on js low taken p [] high h = h
 ordered_on js low taken p (w ∷ ws) high h =
     ordered_marked js low taken (p w) w ws (on_first p (with_taken taken) ws) high h.0 h.1 h.2 h.3 (alone_on w.request taken p ws h.1) (ordered_on js (w.ticket + 1) taken p ws high h.3)
@@ -197,8 +197,8 @@ current_found : (js : List Event) (b : Bool) (w : Waiting) (o : Option Waiting) 
 current_found js true w o x c f h = let P : Waiting → Type 0 = λ y. WasCurrent js y in subst P (same_Some w x h) c
 current_found js false w o x c f h = f h
 
-pub found_current : (js : List Event) (low : ℕ) (p : Waiting → Bool) (ws : List Waiting) (high : ℕ) (x : Waiting) → AreInOrder js low ws high → find p ws ≡ Some x → WasCurrent js x
-unfolding AreInOrder
+pub found_current : (js : List Event) (low : ℕ) (p : Waiting → Bool) (ws : List Waiting) (high : ℕ) (x : Waiting) → WereCurrentInOrder js low ws high → find p ws ≡ Some x → WasCurrent js x
+unfolding WereCurrentInOrder
 found_current js low p [] high x h is = absurd (cc)
 found_current js low p (w ∷ ws) high x h is = current_found js (p w) w (find p ws) x h.2 (found_current js (w.ticket + 1) p ws high x h.3) is
 
@@ -216,8 +216,8 @@ current_later js e w c = record {
   document_is = c.document_is;
 }
 
-ordered_later : (js : List Event) (e : Event) (low : ℕ) (ws : List Waiting) (high : ℕ) → AreInOrder js low ws high → AreInOrder (js ++ e ∷ []) low ws high
-unfolding AreInOrder
+ordered_later : (js : List Event) (e : Event) (low : ℕ) (ws : List Waiting) (high : ℕ) → WereCurrentInOrder js low ws high → WereCurrentInOrder (js ++ e ∷ []) low ws high
+unfolding WereCurrentInOrder
 ordered_later js e low [] high h = h
 ordered_later js e low (w ∷ ws) high h = (h.0, h.1, current_later js e w h.2, ordered_later js e (w.ticket + 1) ws high h.3)
 
@@ -231,24 +231,24 @@ asked_later js e ticket id a = record {
   journal_is = ap (λ (es : List Event). es ++ e ∷ []) a.journal_is ∙ append_assoc a.before (Asked id a.uri a.question a.links ticket ∷ a.later) (e ∷ []);
 }
 
-entry_later : (js : List Event) (e : Event) (x : Entry) → WasEntryCurrent js x → WasEntryCurrent (js ++ e ∷ []) x
+entry_later : (js : List Event) (e : Event) (x : OutboxEntry) → WasEntryCurrent js x → WasEntryCurrent (js ++ e ∷ []) x
 entry_later js e (Body body) h = tt
 entry_later js e (Failure ticket id code) h = asked_later js e ticket id h
 entry_later js e (Outcome w) h = current_later js e w h
 
-entries_later : (js : List Event) (e : Event) (es : List Entry) → WereEntriesCurrent js es → WereEntriesCurrent (js ++ e ∷ []) es
+entries_later : (js : List Event) (e : Event) (es : List OutboxEntry) → WereEntriesCurrent js es → WereEntriesCurrent (js ++ e ∷ []) es
 unfolding WereEntriesCurrent
 entries_later js e [] h = tt
 entries_later js e (x ∷ es) h = (entry_later js e x h.0, entries_later js e es h.1)
 
 -- ---- the entries
 
-entries_append : (js : List Event) (es fs : List Entry) → WereEntriesCurrent js es → WereEntriesCurrent js fs → WereEntriesCurrent js (es ++ fs)
+entries_append : (js : List Event) (es fs : List OutboxEntry) → WereEntriesCurrent js es → WereEntriesCurrent js fs → WereEntriesCurrent js (es ++ fs)
 unfolding WereEntriesCurrent
 entries_append js [] fs h k = k
 entries_append js (e ∷ es) fs h k = (h.0, entries_append js es fs h.1 k)
 
-entries_rest : (js : List Event) (es : List Entry) → WereEntriesCurrent js es → WereEntriesCurrent js (rest es)
+entries_rest : (js : List Event) (es : List OutboxEntry) → WereEntriesCurrent js es → WereEntriesCurrent js (rest es)
 unfolding WereEntriesCurrent
 entries_rest js [] h = tt
 entries_rest js (e ∷ es) h = h.1
@@ -292,13 +292,13 @@ unfolding WereEntriesCurrent
 at_current js code None f = tt
 at_current js code (Some w) f = told_current js code w (f w refl)
 
-if_current : (js : List Event) (b : Bool) (es : List Entry) → WereEntriesCurrent js es → WereEntriesCurrent js (cond b es [])
+if_current : (js : List Event) (b : Bool) (es : List OutboxEntry) → WereEntriesCurrent js es → WereEntriesCurrent js (cond b es [])
 unfolding WereEntriesCurrent
 if_current js true es h = h
 if_current js false es h = tt
 
-ends_current : (js : List Event) (uri : List ℕ) (low : ℕ) (ws : List Waiting) (high : ℕ) → AreInOrder js low ws high → WereEntriesCurrent js (ends uri ws)
-unfolding AreInOrder WereEntriesCurrent
+ends_current : (js : List Event) (uri : List ℕ) (low : ℕ) (ws : List Waiting) (high : ℕ) → WereCurrentInOrder js low ws high → WereEntriesCurrent js (ends uri ws)
+unfolding WereCurrentInOrder WereEntriesCurrent
 ends_current js uri low [] high h = tt
 ends_current js uri low (w ∷ ws) high h =
     entries_append js (end_of uri w) (ends uri ws) (if_current js (is_ended uri w) (told_end content_modified w) (told_current js content_modified w h.2)) (ends_current js uri (w.ticket + 1) ws high h.3)
@@ -317,7 +317,7 @@ left_at_current js failed (Some w) f = left_current js failed w (f w refl)
 
 -- the waiting jobs and the unsent entries of a state, by a journal
 pub record Fits (js : List Event) (s : State) : Type 0 where
-  pub waiting : AreInOrder js 1 s.waiting s.next_ticket
+  pub waiting : WereCurrentInOrder js 1 s.waiting s.next_ticket
   pub unsent : WereEntriesCurrent js s.unsent
 
 named_self : (uri : List ℕ) (version : ℕ) (label : ℤ) (m : Measured) → is_named uri (document uri version label m) ≡ true
@@ -467,7 +467,7 @@ fits_from most n js (e ∷ es) legal fits =
     (fits_from most (n + 1) (js ++ e ∷ []) es (subst Q (sym now) legal.2) (subst P (sym now) (fits_step js e legal.0 fits)))
 
 pub fits_start : Fits [] start
-unfolding AreInOrder WereEntriesCurrent
+unfolding WereCurrentInOrder WereEntriesCurrent
 fits_start = record { waiting = omega arith; unsent = tt }
 
 fits_all : (most : ℕ) (js : List Event) → IsLegal most js → Fits js (replay js)

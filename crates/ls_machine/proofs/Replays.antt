@@ -6,7 +6,7 @@ use Rattle.ls_machine.specs.declared.event.Event.{Event}
 use Rattle.ls_machine.specs.declared.event.Event.TheVariants.{Opened, Changed, Closed, Asked, Cancelled, Said, Took, Returned, Finished, Sent}
 use Rattle.ls_machine.specs.declared.state.State.{State}
 use Rattle.ls_machine.specs.Machine.{start, step, IsPossible}
-use Rattle.ls_machine.specs.Counts.{count_one, counted, first, is_client, no_events, total}
+use Rattle.ls_machine.specs.Counts.{count_one, counted_with, first, is_client, no_events, total}
 use Rattle.ls_machine.specs.Journal.{replay_from, replay, IsLegalFrom, IsLegal, IsCutAt, IsPast}
 
 pub replay_push : (s : State) (es : List Event) (e : Event) → replay_from s (es ++ e ∷ []) ≡ step (replay_from s es) e
@@ -45,17 +45,17 @@ legal_append most n m s (x ∷ es) fs legal is more =
 
 -- ---- counts
 
-pub counted_none : (c : Counts) → counted c [] ≡ c
-unfolding counted
+pub counted_none : (c : Counts) → counted_with c [] ≡ c
+unfolding counted_with
 counted_none c = refl
 
-pub counted_push : (c : Counts) (es : List Event) (e : Event) → counted c (es ++ e ∷ []) ≡ count_one (counted c es) e
-unfolding counted
+pub counted_push : (c : Counts) (es : List Event) (e : Event) → counted_with c (es ++ e ∷ []) ≡ count_one (counted_with c es) e
+unfolding counted_with
 counted_push c [] e = refl
 counted_push c (x ∷ es) e = counted_push (count_one c x) es e
 
-pub counted_append : (c : Counts) (es fs : List Event) → counted c (es ++ fs) ≡ counted (counted c es) fs
-unfolding counted
+pub counted_append : (c : Counts) (es fs : List Event) → counted_with c (es ++ fs) ≡ counted_with (counted_with c es) fs
+unfolding counted_with
 counted_append c [] fs = refl
 counted_append c (x ∷ es) fs = counted_append (count_one c x) es fs
 
@@ -71,8 +71,8 @@ total_one c (Returned ticket) = omega arith
 total_one c (Finished ticket failed) = omega arith
 total_one c (Sent ticket) = omega arith
 
-pub total_counted : (c : Counts) (es : List Event) → total (counted c es) ≡ total c + length es
-unfolding counted
+pub total_counted : (c : Counts) (es : List Event) → total (counted_with c es) ≡ total c + length es
+unfolding counted_with
 total_counted c [] = omega arith
 total_counted c (x ∷ es) = let t = total_counted (count_one c x) es in let o = total_one c x in omega arith
 
@@ -109,9 +109,9 @@ past_state most base past es is = replay_append start past es ∙ ap (λ s. repl
 
 -- the journal has become past
 pub past_more : (most : ℕ) (base : Base) (past es : List Event) (checkpoints : ℕ) → IsPast most base past → IsLegalFrom most (total base.counts) base.state es
-    → IsPast most (record { state = replay_from base.state es; counts = counted base.counts es; checkpoints = checkpoints }) (past ++ es)
+    → IsPast most (record { state = replay_from base.state es; counts = counted_with base.counts es; checkpoints = checkpoints }) (past ++ es)
 past_more most base past es checkpoints is legal = record {
   legal = past_legal most base past es is legal;
   state_is = past_state most base past es is;
-  counts_are = counted_append no_events past es ∙ ap (λ (c : Counts). counted c es) is.counts_are;
+  counts_are = counted_append no_events past es ∙ ap (λ (c : Counts). counted_with c es) is.counts_are;
 }

@@ -17,8 +17,8 @@ use Rattle.ls_machine.specs.declared.event.Event.TheVariants.{Opened, Changed, C
 use Rattle.ls_machine.specs.declared.state.Document.{Document}
 use Rattle.ls_machine.specs.declared.state.Request.{Request}
 use Rattle.ls_machine.specs.declared.state.Waiting.{Waiting}
-use Rattle.ls_machine.specs.declared.state.Entry.{Entry}
-use Rattle.ls_machine.specs.declared.state.Entry.TheVariants.{Body, Failure, Outcome}
+use Rattle.ls_machine.specs.declared.state.OutboxEntry.{OutboxEntry}
+use Rattle.ls_machine.specs.declared.state.OutboxEntry.TheVariants.{Body, Failure, Outcome}
 use Rattle.ls_machine.specs.declared.state.State.{State}
 use Rattle.ls_machine.specs.Machine.{IsPossible, start, step, is_named, document_of, edited_at, measured, asks_with, is_held, is_queued, on_first, without_first_job, with_taken, told_to, told_end, told_if_found, end_of, ends, is_ended, left_at, rest, put_text, close_text, ask_at, content_modified, request_cancelled, internal_error}
 use Rattle.ls_machine.specs.Journal.{IsLegal, IsLegalFrom, replay, replay_from}
@@ -73,7 +73,7 @@ each_if : {A : Type 0} (P : A → Type 0) (b : Bool) (xs ys : List A) → Each P
 each_if P true xs ys p q = p
 each_if P false xs ys p q = q
 
-each_rest : (P : Entry → Type 0) (es : List Entry) → Each P es → Each P (rest es)
+each_rest : (P : OutboxEntry → Type 0) (es : List OutboxEntry) → Each P es → Each P (rest es)
 each_rest P [] p = tt
 each_rest P (e ∷ es) p = p.1
 
@@ -82,7 +82,7 @@ each_rest P (e ∷ es) p = p.1
 abbrev pub IsShort : List ℕ → Type 0
 IsShort text = length text < 2 ^ 62
 
-abbrev pub IsShortEntry : Entry → Type 0
+abbrev pub IsShortEntry : OutboxEntry → Type 0
 IsShortEntry (Body body) = Unit {0}
 IsShortEntry (Failure ticket id code) = Unit {0}
 IsShortEntry (Outcome w) = IsShort w.text

@@ -4,8 +4,8 @@ use Rattle.std.specs.Prelude.{ℤ, Option, Some, None, find, is_some, not, sum_b
 use Rattle.std.proofs.lemmas.Bool.Decides.{nat_tests}
 use Rattle.std.proofs.lemmas.List.Sums.{sum_by-cons}
 use Rattle.ls_machine.specs.declared.event.Event.TheVariants.{Opened, Changed, Closed, Asked, Cancelled, Said, Took, Returned, Finished, Sent}
-use Rattle.ls_machine.specs.declared.state.Entry.{Entry}
-use Rattle.ls_machine.specs.declared.state.Entry.TheVariants.{Outcome}
+use Rattle.ls_machine.specs.declared.state.OutboxEntry.{OutboxEntry}
+use Rattle.ls_machine.specs.declared.state.OutboxEntry.TheVariants.{Outcome}
 use Rattle.ls_machine.specs.declared.state.Request.{Request}
 use Rattle.ls_machine.specs.declared.state.State.{State}
 use Rattle.ls_machine.specs.declared.state.Waiting.{Waiting}
@@ -35,7 +35,7 @@ unfolding IsPossible
 first_goes s true w ws is h = inr (inl (w.ticket, λ failed. taken_finish s [] ws w failed is h))
 first_goes s false w ws is h = inl (λ worker. subst (λ l. is_some (find is_queued l) ≡ true) (sym is) (here is_queued w ws (ap not h)))
 
-goes : (s : State) (ws : List Waiting) (es : List Entry) → s.waiting ≡ ws → s.unsent ≡ es → 0 < left s → CanGoOn s
+goes : (s : State) (ws : List Waiting) (es : List OutboxEntry) → s.waiting ≡ ws → s.unsent ≡ es → 0 < left s → CanGoOn s
 unfolding IsPossible
 goes s (w ∷ ws) es e f less = first_goes s w.taken w ws e refl
 goes s [] (x ∷ es) e f less = inr (inr (ticket_of x, ap first_ticket f))
@@ -53,7 +53,7 @@ two_or_more : (b : Bool) → 2 ≤ (if b then 2 else 3)
 two_or_more true = omega arith
 two_or_more false = omega arith
 
-none_left : (ws : List Waiting) (es : List Entry) → sum_by steps_of ws + length es ≡ 0 → (ws ≡ []) × (es ≡ [])
+none_left : (ws : List Waiting) (es : List OutboxEntry) → sum_by steps_of ws + length es ≡ 0 → (ws ≡ []) × (es ≡ [])
 none_left [] [] h = (refl, refl)
 none_left [] (e ∷ es) h = absurd (omega (arith, h))
 none_left (w ∷ ws) es h =
@@ -107,7 +107,7 @@ one_reported : (ticket : ℕ) (code : ℤ) (r : Option Request) → length (told
 one_reported ticket code None = omega arith
 one_reported ticket code (Some r) = omega arith
 
-one_by : (failed : Bool) (w : Waiting) (es : List Entry) → length es ≤ 1 → length (if failed then es else (Outcome w ∷ [])) ≤ 1
+one_by : (failed : Bool) (w : Waiting) (es : List OutboxEntry) → length es ≤ 1 → length (if failed then es else (Outcome w ∷ [])) ≤ 1
 one_by true w es h = h
 one_by false w es h = omega arith
 
@@ -125,7 +125,7 @@ finished s p failed h =
 
 -- ---- an entry is sent
 
-sent : (es : List Entry) (ticket : ℕ) → first_ticket es ≡ Some ticket → length (rest es) + 1 ≡ length es
+sent : (es : List OutboxEntry) (ticket : ℕ) → first_ticket es ≡ Some ticket → length (rest es) + 1 ≡ length es
 sent [] ticket h = absurd (cc)
 sent (e ∷ es) ticket h = omega arith
 

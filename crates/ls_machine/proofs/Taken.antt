@@ -11,27 +11,27 @@ use Rattle.ls_machine.specs.declared.event.Event.TheVariants.{Opened, Changed, C
 use Rattle.ls_machine.specs.declared.state.State.{State}
 use Rattle.ls_machine.specs.declared.state.Waiting.{Waiting}
 use Rattle.ls_machine.specs.declared.state.Request.{Request}
-use Rattle.ls_machine.specs.declared.state.Entry.{Entry}
-use Rattle.ls_machine.specs.declared.state.Entry.TheVariants.{Body, Failure, Outcome}
+use Rattle.ls_machine.specs.declared.state.OutboxEntry.{OutboxEntry}
+use Rattle.ls_machine.specs.declared.state.OutboxEntry.TheVariants.{Body, Failure, Outcome}
 use Rattle.ls_machine.specs.Machine.{start, step, is_held, is_ended, asks_with, content_modified, request_cancelled, internal_error, document_of, edited_at, told_to, told_end, told_if_found, end_of, ends, left_by, left_at, rest, put_text, close_text, ask_at}
 use Rattle.ls_machine.specs.Journal.{replay_from}
 use Rattle.ls_machine.proofs.Places.{found_passes}
 
 -- each outcome's job was taken
-unfoldable pub WereTaken : List Entry → Type 0
+unfoldable pub WereTaken : List OutboxEntry → Type 0
 WereTaken [] = Unit {0}
 WereTaken (Body body ∷ es) = WereTaken es
 WereTaken (Failure ticket id code ∷ es) = WereTaken es
 WereTaken (Outcome w ∷ es) = (w.taken ≡ true) × WereTaken es
 
-taken_append : (es fs : List Entry) → WereTaken es → WereTaken fs → WereTaken (es ++ fs)
+taken_append : (es fs : List OutboxEntry) → WereTaken es → WereTaken fs → WereTaken (es ++ fs)
 unfolding WereTaken
 taken_append [] fs h k = k
 taken_append (Body body ∷ es) fs h k = taken_append es fs h k
 taken_append (Failure ticket id code ∷ es) fs h k = taken_append es fs h k
 taken_append (Outcome w ∷ es) fs h k = (h.0, taken_append es fs h.1 k)
 
-taken_rest : (es : List Entry) → WereTaken es → WereTaken (rest es)
+taken_rest : (es : List OutboxEntry) → WereTaken es → WereTaken (rest es)
 unfolding WereTaken
 taken_rest [] h = tt
 taken_rest (Body body ∷ es) h = h
@@ -52,7 +52,7 @@ unfolding WereTaken
 taken_at code None = tt
 taken_at code (Some w) = taken_told w.ticket code w.request
 
-taken_if : (b : Bool) (es : List Entry) → WereTaken es → WereTaken (cond b es [])
+taken_if : (b : Bool) (es : List OutboxEntry) → WereTaken es → WereTaken (cond b es [])
 unfolding WereTaken
 taken_if true es h = h
 taken_if false es h = tt

@@ -34,9 +34,9 @@ count_one c (Finished ticket failed) = record c { finished = c.finished + 1 }
 count_one c (Sent ticket) = record c { sent = c.sent + 1 }
 
 -- the counts with the events of a list more
-unfoldable pub counted : Counts → List Event → Counts
-counted c [] = c
-counted c (e ∷ es) = counted (count_one c e) es
+unfoldable pub counted_with : Counts → List Event → Counts
+counted_with c [] = c
+counted_with c (e ∷ es) = counted_with (count_one c e) es
 
 -- how many events there are of all kinds together
 abbrev pub total : Counts → ℕ

@@ -3,7 +3,7 @@ use Rattle.std.specs.Prelude.{◌≡◌, ◌≤◌, ◌+◌, ℕ, zero, suc, Lis
 use Rattle.ls_machine.specs.declared.event.Event.{Event}
 use Rattle.ls_machine.specs.declared.base.Base.{Base}
 use Rattle.ls_machine.specs.declared.state.State.{State}
-use Rattle.ls_machine.specs.Counts.{counted, is_client, no_events}
+use Rattle.ls_machine.specs.Counts.{counted_with, is_client, no_events}
 use Rattle.ls_machine.specs.Machine.{start, step, IsPossible}
 
 -- the state to which events lead from this state, one after the other
@@ -30,7 +30,7 @@ IsLegal most events = IsLegalFrom most 0 start events
 pub record IsPast (most : ℕ) (base : Base) (past : List Event) : Type 0 where
   pub legal : IsLegal most past
   pub state_is : replay past ≡ base.state
-  pub counts_are : counted no_events past ≡ base.counts
+  pub counts_are : counted_with no_events past ≡ base.counts
 
 -- No client's event stands at this place of a journal, counted from 0, or later.
 unfoldable pub IsCutAt : ℕ → List Event → Type 0

@@ -5,8 +5,8 @@ use Rattle.ls_answers.specs.declared.ask.Ask.{Ask}
 use Rattle.ls_answers.specs.declared.ask.Ask.TheVariants.{Diagnose}
 use Rattle.ls_machine.specs.declared.event.Event.{Event}
 use Rattle.ls_machine.specs.declared.event.Event.TheVariants.{Opened, Changed, Closed, Asked, Finished}
-use Rattle.ls_machine.specs.declared.state.Entry.{Entry}
-use Rattle.ls_machine.specs.declared.state.Entry.TheVariants.{Body, Failure, Outcome}
+use Rattle.ls_machine.specs.declared.state.OutboxEntry.{OutboxEntry}
+use Rattle.ls_machine.specs.declared.state.OutboxEntry.TheVariants.{Body, Failure, Outcome}
 use Rattle.ls_machine.specs.declared.state.Request.{Request}
 use Rattle.ls_machine.specs.declared.state.Waiting.{Waiting}
 use Rattle.ls_machine.specs.Machine.{step, document, document_of, measured, asks_with, ticket_of}
@@ -46,9 +46,9 @@ IsAlone (Some r) waiting = find (asks_with r.id) waiting ≡ None
 
 -- Each job's ticket is at least `low` and greater than those before it, and all are below `high`. None behind it has the same id. Its text
 -- was that of its document when it was asked.
-unfoldable pub AreInOrder : List Event → ℕ → List Waiting → ℕ → Type 0
-AreInOrder journal low [] high = low ≤ high
-AreInOrder journal low (w ∷ ws) high = (low ≤ w.ticket) × IsAlone w.request ws × WasCurrent journal w × AreInOrder journal (w.ticket + 1) ws high
+unfoldable pub WereCurrentInOrder : List Event → ℕ → List Waiting → ℕ → Type 0
+WereCurrentInOrder journal low [] high = low ≤ high
+WereCurrentInOrder journal low (w ∷ ws) high = (low ≤ w.ticket) × IsAlone w.request ws × WasCurrent journal w × WereCurrentInOrder journal (w.ticket + 1) ws high
 
 -- One of the events of a journal is the request with this id that got this ticket.
 pub record WasAsked (journal : List Event) (ticket : ℕ) (id : Id) : Type 0 where
@@ -61,20 +61,20 @@ pub record WasAsked (journal : List Event) (ticket : ℕ) (id : Id) : Type 0 whe
 
 -- The text of an outcome was that of its document when it was asked about, and a failure has the ticket and the id of a request of the
 -- journal. Of a body nothing is said.
-abbrev pub WasEntryCurrent : List Event → Entry → Type 0
+abbrev pub WasEntryCurrent : List Event → OutboxEntry → Type 0
 WasEntryCurrent journal (Body body) = Unit {0}
 WasEntryCurrent journal (Failure ticket id code) = WasAsked journal ticket id
 WasEntryCurrent journal (Outcome w) = WasCurrent journal w
 
 -- So it is of each of these entries.
-unfoldable pub WereEntriesCurrent : List Event → List Entry → Type 0
+unfoldable pub WereEntriesCurrent : List Event → List OutboxEntry → Type 0
 WereEntriesCurrent journal [] = Unit {0}
 WereEntriesCurrent journal (e ∷ es) = WasEntryCurrent journal e × WereEntriesCurrent journal es
 
 -- In the state of this journal the tickets of waiting jobs rise from 1 to below the next one, so that each stands once, and so does each
 -- id; the text of each job, and of each unsent outcome, was current when it was asked about.
 pub record IsOrdered (journal : List Event) : Type 0 where
-  pub waiting : AreInOrder journal 1 (replay journal).waiting (replay journal).next_ticket
+  pub waiting : WereCurrentInOrder journal 1 (replay journal).waiting (replay journal).next_ticket
   pub unsent : WereEntriesCurrent journal (replay journal).unsent
 
 -- So it is in the state of every legal journal, whoever wrote it.
@@ -88,7 +88,7 @@ abbrev pub has_ticket : ℕ → Waiting → Bool
 has_ticket ticket w = w.ticket == ticket
 
 -- The entry came from the job with this ticket.
-abbrev pub is_told_of : ℕ → Entry → Bool
+abbrev pub is_told_of : ℕ → OutboxEntry → Bool
 is_told_of ticket e = ticket_of e == ticket
 
 -- how often a ticket stands among the jobs that wait, what was sent, and what isn't sent yet

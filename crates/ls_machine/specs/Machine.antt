@@ -16,8 +16,8 @@ use Rattle.ls_machine.specs.declared.state.Document.{Document}
 use Rattle.ls_machine.specs.declared.state.Request.{Request}
 use Rattle.ls_machine.specs.declared.state.Waiting.{Waiting}
 use Rattle.ls_machine.specs.declared.state.State.{State}
-use Rattle.ls_machine.specs.declared.state.Entry.{Entry}
-use Rattle.ls_machine.specs.declared.state.Entry.TheVariants.{Body, Failure, Outcome}
+use Rattle.ls_machine.specs.declared.state.OutboxEntry.{OutboxEntry}
+use Rattle.ls_machine.specs.declared.state.OutboxEntry.TheVariants.{Body, Failure, Outcome}
 use Rattle.ls_machine.specs.declared.event.Event.{Event}
 use Rattle.ls_machine.specs.declared.event.Event.TheVariants.{Opened, Changed, Closed, Asked, Cancelled, Said, Took, Returned, Finished, Sent}
 
@@ -133,12 +133,12 @@ asked ticket id ask links d = record {
 -- ---- what an end is answered
 
 -- the error with this code for whoever asked; nothing where nobody did
-abbrev pub told_to : ℕ → ℤ → Option Request → List Entry
+abbrev pub told_to : ℕ → ℤ → Option Request → List OutboxEntry
 told_to ticket code None = []
 told_to ticket code (Some r) = Failure ticket r.id code ∷ []
 
 -- the error with this code for the request of a job that ends; nothing where it was for findings, which nobody asked for
-abbrev pub told_end : ℤ → Waiting → List Entry
+abbrev pub told_end : ℤ → Waiting → List OutboxEntry
 told_end code w = told_to w.ticket code w.request
 
 -- the code of a request that a change or a close of its document ends: -32801, ContentModified (LSP 3.17, "ErrorCodes")
@@ -167,11 +167,11 @@ abbrev pub is_ended : List ℕ → Waiting → Bool
 is_ended uri w = bytes_eq w.uri uri && ends_by_change w.ask
 
 -- what a change or a close of the document of this uri answers one job: -32801 where it ends it
-abbrev pub end_of : List ℕ → Waiting → List Entry
+abbrev pub end_of : List ℕ → Waiting → List OutboxEntry
 end_of uri w = if is_ended uri w then told_end content_modified w else []
 
 -- what it answers all jobs, in the order of their tickets
-abbrev pub ends : List ℕ → List Waiting → List Entry
+abbrev pub ends : List ℕ → List Waiting → List OutboxEntry
 ends uri waiting = flat_map (end_of uri) waiting
 
 -- the jobs that go on behind it
@@ -179,21 +179,21 @@ abbrev pub going_on : List ℕ → List Waiting → List Waiting
 going_on uri waiting = filter (λ w. not (is_ended uri w)) waiting
 
 -- what a job leaves that has run: its outcome, or -32603 for its request where memory was refused in it
-abbrev pub left_by : Bool → Waiting → List Entry
+abbrev pub left_by : Bool → Waiting → List OutboxEntry
 left_by failed w = if failed then told_end internal_error w else (Outcome w ∷ [])
 
 -- the same of the job that was found, if one was
-abbrev pub left_at : Bool → Option Waiting → List Entry
+abbrev pub left_at : Bool → Option Waiting → List OutboxEntry
 left_at failed None = []
 left_at failed (Some w) = left_by failed w
 
 -- the error with this code for the job that was found, if one was
-abbrev pub told_if_found : ℤ → Option Waiting → List Entry
+abbrev pub told_if_found : ℤ → Option Waiting → List OutboxEntry
 told_if_found code None = []
 told_if_found code (Some w) = told_end code w
 
 -- the entries without the first
-abbrev pub rest : List Entry → List Entry
+abbrev pub rest : List OutboxEntry → List OutboxEntry
 rest [] = []
 rest (e ∷ es) = es
 
@@ -247,13 +247,13 @@ step s (Finished ticket failed) = record s {
 step s (Sent ticket) = record s { unsent = rest s.unsent }
 
 -- the ticket of the job that an entry came from, 0 for a body
-abbrev pub ticket_of : Entry → ℕ
+abbrev pub ticket_of : OutboxEntry → ℕ
 ticket_of (Body body) = 0
 ticket_of (Failure ticket id code) = ticket
 ticket_of (Outcome w) = w.ticket
 
 -- the ticket of the first entry, if there is one
-abbrev pub first_ticket : List Entry → Option ℕ
+abbrev pub first_ticket : List OutboxEntry → Option ℕ
 first_ticket [] = None
 first_ticket (e ∷ es) = Some (ticket_of e)
 

@@ -4,7 +4,7 @@ ghost use Rattle.ls_machine.specs.Outs.{entry_for, job_of_run};
 
 use crate::event::Out;
 use crate::shared::SharedSnapshot;
-use crate::state::{Document, Entry, Request, State, Waiting};
+use crate::state::{Document, OutboxEntry, Request, State, Waiting};
 use ls_answers::Done;
 use ls_lists::{List, Text};
 use std::alloc::{AllocError, Global};
@@ -56,14 +56,14 @@ fn job_of(
 }
 
 /// The entry for which a reply stands.
-fn entry_for(out: &Out) -> Result<Entry, AllocError>
+fn entry_for(out: &Out) -> Result<OutboxEntry, AllocError>
     ensures { IfOk result (λ entry. entry ≡ entry_for out.now) }
 {
     match out {
-        Out::Said(body) => Ok(Entry::Body(body.copy()?)),
+        Out::Said(body) => Ok(OutboxEntry::Body(body.copy()?)),
         Out::Failed { ticket, id, code } => {
             let id = id.copy()?;
-            Ok(Entry::Failure {
+            Ok(OutboxEntry::Failure {
                 ticket: *ticket,
                 id,
                 code: *code,
@@ -81,19 +81,19 @@ fn entry_for(out: &Out) -> Result<Entry, AllocError>
                 id: id.copy()?,
                 links: *links,
             };
-            Ok(Entry::Outcome(job_of(uri, *version, *label, Some(request), done)?))
+            Ok(OutboxEntry::Outcome(job_of(uri, *version, *label, Some(request), done)?))
         }
         Out::Findings {
             uri,
             version,
             label,
             done,
-        } => Ok(Entry::Outcome(job_of(uri, *version, *label, None, done)?)),
+        } => Ok(OutboxEntry::Outcome(job_of(uri, *version, *label, None, done)?)),
     }
 }
 
 /// The entries for which replies stand, behind those that are there.
-fn push_entries(entries: &mut List<Entry>, outs: &[Out]) -> Result<(), AllocError>
+fn push_entries(entries: &mut List<OutboxEntry>, outs: &[Out]) -> Result<(), AllocError>
     ensures { OnOk result (entries.new ≡ entries.old ++ map entry_for outs.now) }
 {
     for out in outs {
@@ -103,7 +103,7 @@ fn push_entries(entries: &mut List<Entry>, outs: &[Out]) -> Result<(), AllocErro
 }
 
 /// The entries for which replies stand.
-fn entries_for(alloc: Global, outbox: &VecDeque<Out>) -> Result<List<Entry>, AllocError>
+fn entries_for(alloc: Global, outbox: &VecDeque<Out>) -> Result<List<OutboxEntry>, AllocError>
     ensures { IfOk result (λ entries. entries ≡ map entry_for outbox.now.items) }
 {
     let (first, rest) = outbox.as_slices();

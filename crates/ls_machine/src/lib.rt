@@ -34,4 +34,4 @@ pub use event::{DeskFault, Event, Kept, Out};
 pub use laws::{legal_journals_are_ordered, runs_are_known, tickets_are_kept_once};
 pub use progress::{steps_are_few, work_goes_on};
 pub use shared::SharedSnapshot;
-pub use state::{Document, Entry, Request, State, Waiting};
+pub use state::{Document, OutboxEntry, Request, State, Waiting};

@@ -128,7 +128,7 @@ impl Waiting {
 
 /// What is to be sent, as the state of a desk has it.
 #[derive(Drop)]
-pub enum Entry {
+pub enum OutboxEntry {
     /// A body that was said, as it stands.
     Body(List<u8>),
     /// A request that gets no answer, with its ticket and its id, and the code of its error: -32801, -32800 or -32603 (LSP 3.17,
@@ -146,7 +146,7 @@ pub struct State {
     /// The waiting jobs, in the order of their tickets.
     pub waiting: List<Waiting>,
     /// What isn't sent yet, the oldest first.
-    pub unsent: List<Entry>,
+    pub unsent: List<OutboxEntry>,
     /// The number that the next text gets.
     pub next_version: u64,
     /// The number that the next job gets.

@@ -3,7 +3,7 @@ use Rattle.std.proofs.Common.{◌≡◌, ℕ, zero, suc, true, List, [], ◌∷�
 use Rattle.std.specs.Prelude.{Result, Ok, Err}
 use Rattle.std.specs.Io.KnownBytes.{Appends}
 use Rattle.ls_steps.specs.Runs.{Going, IsSent, Runs, Steps, send, state_at}
-use Rattle.ls_steps.specs.Plain.{CanSendAll, Replies, times}
+use Rattle.ls_steps.specs.Plain.{CanSendAll, Replies, many_times}
 use Rattle.ls_steps.proofs.ByActs.{runs_append}
 use Rattle.ls_steps.proofs.Serving.{OneSent, can_go_on, left_is, replies_more, send_runs}
 use Rattle.ls_plain.specs.own.Sending.{SendsIs, SentPrefix, SomeSent}
@@ -51,7 +51,7 @@ onward_step g x m now later step can more =
           some_more g x m now later (record { sends = step; more = rw u refl; fewer = omega (arith, behind, first) }) can more
     ]) refl step
 
-onward : (replies : ℕ) (g m : Going) (bytes : List ℕ) → Runs true g (times replies (send ∷ [])) m bytes → CanSendAll g → Onward g m bytes
+onward : (replies : ℕ) (g m : Going) (bytes : List ℕ) → Runs true g (many_times replies (send ∷ [])) m bytes → CanSendAll g → Onward g m bytes
 unfolding Runs
 onward zero g m bytes r can = record {
   can = subst CanSendAll (sym r.0) can;
@@ -66,15 +66,15 @@ pub sent_start : (g : Going) (a : Option (List ℕ)) → SomeSent g g a a
 unfolding Runs
 sent_start g a = record { replies = 0; bytes = []; sent = (refl, refl); written = appends_none a }
 
-one_more : (n : ℕ) → times n (send ∷ []) ++ send ∷ [] ≡ times (suc n) (send ∷ [])
+one_more : (n : ℕ) → many_times n (send ∷ []) ++ send ∷ [] ≡ many_times (suc n) (send ∷ [])
 one_more zero = refl
 one_more (suc n) = ap (λ acts. send ∷ acts) (one_more n)
 
-next_sent : (first now next : Going) (replies : ℕ) (bytes frame : List ℕ) → Runs true first (times replies (send ∷ [])) now bytes → Steps true now send next frame
-    → Runs true first (times (suc replies) (send ∷ [])) next (bytes ++ frame)
+next_sent : (first now next : Going) (replies : ℕ) (bytes frame : List ℕ) → Runs true first (many_times replies (send ∷ [])) now bytes → Steps true now send next frame
+    → Runs true first (many_times (suc replies) (send ∷ [])) next (bytes ++ frame)
 next_sent first now next replies bytes frame r s =
     subst (λ acts. Runs true first acts next (bytes ++ frame)) (one_more replies)
-    (runs_append true first now next (times replies (send ∷ [])) (send ∷ []) bytes frame r (send_runs true now next frame s))
+    (runs_append true first now next (many_times replies (send ∷ [])) (send ∷ []) bytes frame r (send_runs true now next frame s))
 
 pub sent_more : (first now next : Going) (a b c : Option (List ℕ)) (frame : List ℕ) → SomeSent first now a b → Steps true now send next frame → Appends b c frame → SomeSent first next a c
 sent_more first now next a b c frame s step w = record {

@@ -10,8 +10,8 @@ use Rattle.ls_rpc.specs.Message.{Message, request, notice, response, bad, id_of}
 use Rattle.ls_text.specs.declared.position.Encoding.{Encoding}
 use Rattle.ls_answers.specs.declared.ask.Ask.{Ask}
 use Rattle.ls_answers.specs.declared.ask.Ask.TheVariants.{Hover, Definition, References, Rename, Action, Diagnose}
-use Rattle.ls_session.specs.Params.{◌>>=◌, ask_of, changes_of, declarations_of, document_member, encoding_in, event_of, label_of, position_in, question_of, range_of, uri_of}
-use Rattle.ls_session.specs.Session.{asked, bad_turn, event_or_nothing, exit_turn, first_turn, late_event, notice_turn, request_turn, running_turn, stage_event, turn_of, IsAllowedOn}
+use Rattle.ls_session.specs.Params.{◌>>=◌, ask_of, changes_of, declarations_of, document_member, encoding_in, event_of, label_of, asked_position, question_of, range_of, uri_of}
+use Rattle.ls_session.specs.Session.{turn_of_request, bad_turn, event_or_nothing, exit_turn, first_turn, late_event, notice_turn, request_turn, running_turn, stage_event, turn_of, IsAllowedOn}
 use Rattle.ls_machine.specs.declared.client.ClientEvent.{ClientEvent}
 use Rattle.ls_machine.specs.declared.client.ClientEvent.TheVariants as event
 use Rattle.ls_session.specs.declared.turn.Turn.{Turn}
@@ -48,11 +48,11 @@ rename_allowed (Some p) (Some n) = λ e. cc
 ask_allowed : (k : RequestKind) (params : Data) → IsAsked (ask_of k params)
 ask_allowed kind.Initialize params = tt
 ask_allowed kind.Shutdown params = tt
-ask_allowed kind.Hover params = asked_map Hover (position_in params) (λ x e. cc)
-ask_allowed kind.Definition params = asked_map Definition (position_in params) (λ x e. cc)
-ask_allowed kind.References params = references_allowed (position_in params) (declarations_of params)
+ask_allowed kind.Hover params = asked_map Hover (asked_position params) (λ x e. cc)
+ask_allowed kind.Definition params = asked_map Definition (asked_position params) (λ x e. cc)
+ask_allowed kind.References params = references_allowed (asked_position params) (declarations_of params)
 ask_allowed kind.DocumentSymbol params = λ e. cc
-ask_allowed kind.Rename params = rename_allowed (position_in params) (get (codes "newName") params >>= as_str)
+ask_allowed kind.Rename params = rename_allowed (asked_position params) (get (codes "newName") params >>= as_str)
 ask_allowed kind.CodeAction params = asked_map Action (get (codes "range") params >>= range_of) (λ x e. cc)
 ask_allowed kind.SemanticTokens params = λ e. cc
 ask_allowed kind.Unknown params = tt
@@ -69,7 +69,7 @@ question_of_both (Some uri) (Some ask) h = h
 question_allowed : (k : RequestKind) (params : Data) → IsQuestion (question_of k params)
 question_allowed k params = question_of_both (uri_of params) (ask_of k params) (ask_allowed k params)
 
-asked_allowed : (id : Id) (links : Bool) (question : Option (List ℕ × Ask)) → IsQuestion question → IsAllowedOn (asked id links question)
+asked_allowed : (id : Id) (links : Bool) (question : Option (List ℕ × Ask)) → IsQuestion question → IsAllowedOn (turn_of_request id links question)
 asked_allowed id links None h = tt
 asked_allowed id links (Some question) h = h
 

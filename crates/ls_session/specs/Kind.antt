@@ -11,8 +11,8 @@ row_of [] other name = other
 row_of (row ∷ rows) other name = if bytes_eq name row.0 then row.1 else row_of rows other name
 
 -- the methods that are known as requests, and as these alone (LSP 3.17)
-abbrev pub requests : List (List ℕ × RequestKind)
-requests =
+abbrev pub request_methods : List (List ℕ × RequestKind)
+request_methods =
     (codes "initialize", request.Initialize) ∷
     (codes "shutdown", request.Shutdown) ∷
     (codes "textDocument/hover", request.Hover) ∷
@@ -34,7 +34,7 @@ notices =
 
 -- what the method of a request is; a notice's is none that is known
 abbrev pub request_named : List ℕ → RequestKind
-request_named name = row_of requests request.Unknown name
+request_named name = row_of request_methods request.Unknown name
 
 -- what the method of a notice is; a request's is none that is known
 abbrev pub notice_named : List ℕ → NoticeKind

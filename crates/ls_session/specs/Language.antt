@@ -10,8 +10,8 @@ use Rattle.ls_session.specs.declared.language.Format.TheVariants.{Abnf, Markdown
 
 -- What a language's name says, if it is one of these three; names are compared byte for byte (LSP 3.17,
 -- "TextDocumentItem": `languageId`).
-abbrev pub format_named : List ℕ → Option Format
-format_named language =
+abbrev pub format_of_language : List ℕ → Option Format
+format_of_language language =
     if bytes_eq language (codes "abnf") then Some Abnf
     else if bytes_eq language (codes "markdown") then Some Markdown
     else if bytes_eq language (codes "xml") then Some Xml

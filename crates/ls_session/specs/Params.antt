@@ -13,7 +13,7 @@ use Rattle.ls_answers.specs.declared.ask.Ask.{Ask}
 use Rattle.ls_answers.specs.declared.ask.Ask.TheVariants as ask
 use Rattle.ls_machine.specs.declared.client.ClientEvent.{ClientEvent}
 use Rattle.ls_machine.specs.declared.client.ClientEvent.TheVariants as event
-use Rattle.ls_session.specs.Language.{by_ending, encoding_for, format_named}
+use Rattle.ls_session.specs.Language.{by_ending, encoding_for, format_of_language}
 use Rattle.ls_session.specs.declared.language.Format.{Format}
 use Rattle.ls_session.specs.declared.language.Format.TheVariants.{Abnf}
 use Rattle.ls_session.specs.declared.session.Agreed.{Agreed}
@@ -91,16 +91,16 @@ changes_of params = get (codes "contentChanges") params >>= as_array >>= edits_o
 -- what `languageId` says that a document is written in, if it is a text that says one of the formats (LSP 3.17,
 -- "TextDocumentItem")
 abbrev pub named_format : Data → Option Format
-named_format params = document_member (codes "languageId") params >>= as_str >>= format_named
+named_format params = document_member (codes "languageId") params >>= as_str >>= format_of_language
 
 -- what a document with this uri is written in: what `languageId` says, or else the ending of the uri
-abbrev pub format_of : List ℕ → Data → Format
-format_of uri params = unwrap_or (named_format params) (by_ending uri)
+abbrev pub document_format : List ℕ → Data → Format
+document_format uri params = unwrap_or (named_format params) (by_ending uri)
 
 -- How a document with this uri is read: as a grammar unless drafts were agreed on, and else by what it is written in.
 -- Its positions count the units that were agreed.
 abbrev pub encoding_in : Agreed → List ℕ → Data → Encoding
-encoding_in agreed uri params = encoding_for (if agreed.drafts then format_of uri params else Abnf) agreed.units
+encoding_in agreed uri params = encoding_for (if agreed.drafts then document_format uri params else Abnf) agreed.units
 
 -- the opening of a document, whose uri and text must be there (LSP 3.17, "DidOpenTextDocument Notification")
 abbrev pub did_open_of : Agreed → Data → Option ClientEvent
@@ -136,8 +136,8 @@ event_of agreed notice.Unknown params = None
 -- ---- requests
 
 -- where a request asks (LSP 3.17, "TextDocumentPositionParams")
-abbrev pub position_in : Data → Option Position
-position_in params = get (codes "position") params >>= read_position
+abbrev pub asked_position : Data → Option Position
+asked_position params = get (codes "position") params >>= read_position
 
 -- what `context.includeDeclaration` says, if it says true or false (LSP 3.17, "Find References Request")
 abbrev pub named_declarations : Data → Option Bool
@@ -151,13 +151,13 @@ declarations_of params = unwrap_or (named_declarations params) true
 -- where a name is asked for, and whether the places that define it are (LSP 3.17, "Find References Request")
 abbrev pub references_of : Data → Option Ask
 references_of params = do
-  position ← position_in params
+  position ← asked_position params
   Some (ask.References position (declarations_of params))
 
 -- where a name is asked for, and the text that it gets (LSP 3.17, "Rename Request")
 abbrev pub rename_of : Data → Option Ask
 rename_of params = do
-  position ← position_in params
+  position ← asked_position params
   new ← get (codes "newName") params >>= as_str
   Some (ask.Rename position new)
 
@@ -169,8 +169,8 @@ action_of params = option_map ask.Action (get (codes "range") params >>= range_o
 abbrev pub ask_of : RequestKind → Data → Option Ask
 ask_of request.Initialize params = None
 ask_of request.Shutdown params = None
-ask_of request.Hover params = option_map ask.Hover (position_in params)
-ask_of request.Definition params = option_map ask.Definition (position_in params)
+ask_of request.Hover params = option_map ask.Hover (asked_position params)
+ask_of request.Definition params = option_map ask.Definition (asked_position params)
 ask_of request.References params = references_of params
 ask_of request.DocumentSymbol params = Some ask.Symbols
 ask_of request.Rename params = rename_of params

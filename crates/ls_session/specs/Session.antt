@@ -39,9 +39,9 @@ refused id refusal = Event (event.Say (error_body id refusal))
 -- ---- requests
 
 -- The question of a request goes to the desk; parameters that can't be read are refused as -32602.
-abbrev pub asked : Id → Bool → Option (List ℕ × Ask) → Turn
-asked id links (Some question) = Event (event.Request id question.0 question.1 links)
-asked id links None = refused (Some id) refusal.InvalidParams
+abbrev pub turn_of_request : Id → Bool → Option (List ℕ × Ask) → Turn
+turn_of_request id links (Some question) = Event (event.Request id question.0 question.1 links)
+turn_of_request id links None = refused (Some id) refusal.InvalidParams
 
 -- Before `initialize` that alone is served; all else is refused as -32002.
 abbrev pub first_turn : Id → RequestKind → Data → Turn × Stage
@@ -54,7 +54,7 @@ abbrev pub running_turn : Agreed → Id → RequestKind → Data → Turn × Sta
 running_turn agreed id kind.Initialize params = (refused (Some id) refusal.InvalidRequest, Running agreed)
 running_turn agreed id kind.Shutdown params = (said (result_json id null), ShutDown)
 running_turn agreed id kind.Unknown params = (refused (Some id) refusal.MethodNotFound, Running agreed)
-running_turn agreed id k params = (asked id agreed.links (question_of k params), Running agreed)
+running_turn agreed id k params = (turn_of_request id agreed.links (question_of k params), Running agreed)
 
 -- The turn on a request, by its stage: after `shutdown` each is refused as -32600, and after `exit` nothing comes of any.
 abbrev pub request_turn : Stage → Id → RequestKind → Data → Turn × Stage

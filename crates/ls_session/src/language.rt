@@ -1,6 +1,6 @@
 //! What a document is written in, by the name of its language and by its uri (LSP 3.17, "TextDocumentItem").
 ghost use Rattle.std.specs.Prelude.{◌≡◌};
-ghost use Rattle.ls_session.specs.Language.{by_ending, encoding_for, format_named};
+ghost use Rattle.ls_session.specs.Language.{by_ending, encoding_for, format_of_language};
 
 use ls_text::{Encoding, Units};
 use text_files::{has_ending, is_markdown};
@@ -19,7 +19,7 @@ pub enum Format {
 /// The format that a language's name says, if it is `abnf`, `markdown` or `xml`; any other name says nothing (LSP 3.17,
 /// "TextDocumentItem": `languageId`). Names are compared byte for byte.
 pub(crate) fn format_named(language: &str) -> Option<Format>
-    ensures { result ≡ format_named language.now }
+    ensures { result ≡ format_of_language language.now }
 {
     if language == "abnf" {
         Some(Format::Abnf)

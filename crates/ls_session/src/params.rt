@@ -5,7 +5,7 @@ ghost use Rattle.serde_json.specs.View.{view, items_view};
 ghost use Rattle.ls_session.specs.Language.{by_ending, encoding_for};
 ghost use Rattle.ls_session.specs.declared.language.Format.TheVariants.{Abnf};
 ghost use Rattle.serde_json.specs.Data.{null};
-ghost use Rattle.ls_session.specs.Params.{document_member, uri_of, label_of, count_in, read_position, range_of, range_or_none, edit_of, edits_of, changes_of, named_format, did_open_of, did_change_of, cancel_of, event_of, position_in, named_declarations, declarations_of, references_of, rename_of, action_of, ask_of, question_of, named_links, links_of, named_drafts, drafts_of, units_named, offer_of, first_offer, named_units, units_of_client, agreed_of};
+ghost use Rattle.ls_session.specs.Params.{document_member, uri_of, label_of, count_in, read_position, range_of, range_or_none, edit_of, edits_of, changes_of, named_format, did_open_of, did_change_of, cancel_of, event_of, asked_position, named_declarations, declarations_of, references_of, rename_of, action_of, ask_of, question_of, named_links, links_of, named_drafts, drafts_of, units_named, offer_of, first_offer, named_units, units_of_client, agreed_of};
 
 use crate::kind::{NoticeKind, RequestKind};
 use crate::language::{Format, by_ending, encoding_for, format_named};
@@ -194,7 +194,7 @@ pub(crate) fn event(
 }
 
 fn position_in(params: &Value) -> Option<Position>
-    ensures { result ≡ position_in (view params.now) }
+    ensures { result ≡ asked_position (view params.now) }
 {
     position(params.get("position")?)
 }

@@ -5,7 +5,7 @@ ghost use Rattle.serde_json.specs.View.{view};
 ghost use Rattle.serde_json.specs.Written.{has_float};
 ghost use Rattle.ls_rpc.specs.Message.{message_of, message_view};
 ghost use Rattle.ls_rpc.specs.Reply.{result_json};
-ghost use Rattle.ls_session.specs.Session.{turn_of, request_turn, running_turn, first_turn, notice_turn, exit_turn, stage_event, late_event, bad_turn, asked, refused, said};
+ghost use Rattle.ls_session.specs.Session.{turn_of, request_turn, running_turn, first_turn, notice_turn, exit_turn, stage_event, late_event, bad_turn, turn_of_request, refused, said};
 ghost use Rattle.ls_session.specs.declared.session.Stage.TheVariants.{BeforeInitialize, Ended};
 
 use crate::initialize::initialize_value;
@@ -174,7 +174,7 @@ fn running_turn(
 }
 
 fn asked(alloc: Global, id: Id, links: bool, question: Option<(Text, Ask)>) -> Result<Turn, Memory>
-    ensures { IfOk result (λ turn. turn ≡ asked id links question) }
+    ensures { IfOk result (λ turn. turn ≡ turn_of_request id links question) }
 {
     match question {
         Some((uri, ask)) => Ok(Turn::Event(ClientEvent::Request(id, uri, ask, links))),

@@ -9,10 +9,10 @@ use Rattle.ls_machine.specs.declared.event.Event.{Event}
 use Rattle.ls_machine.specs.declared.event.Event.TheVariants.{Finished, Took, Said, Sent}
 use Rattle.ls_machine.specs.declared.event.DeskFault.{DeskFault}
 use Rattle.ls_machine.specs.declared.event.DeskFault.TheVariants as fault
-use Rattle.ls_machine.specs.declared.state.Entry.{Entry}
+use Rattle.ls_machine.specs.declared.state.OutboxEntry.{OutboxEntry}
 use Rattle.ls_machine.specs.declared.state.State.{State}
 use Rattle.ls_machine.specs.declared.state.Waiting.{Waiting}
-use Rattle.ls_machine.specs.Counts.{counted, is_client, no_events}
+use Rattle.ls_machine.specs.Counts.{counted_with, is_client, no_events}
 use Rattle.ls_machine.specs.Journal.{replay, replay_from}
 use Rattle.ls_machine.specs.Machine.{is_queued, start}
 use Rattle.ls_machine.proofs.Replays.{counted_append, counted_none, replay_append, replay_none}
@@ -28,7 +28,7 @@ use Rattle.ls_machine.specs.declared.client.ClientEvent.{ClientEvent}
 use Rattle.ls_machine.specs.Client.{asker_of}
 use Rattle.ls_desk.specs.Door.{client_fault, entered_at}
 use Rattle.ls_session.specs.Bodies.{refusal_to}
-use Rattle.ls_steps.specs.Runs.{Act, Going, Held, IsSent, Left, Runs, Steps, begun, break_off, desk_of, finish_job, finished_by, hear, heard, is_filled, met, on_turn, ran, refused, runs, said_by, send, state_at, take_job, takes, tells, took}
+use Rattle.ls_steps.specs.Runs.{Act, Going, Held, IsSent, Left, Runs, Steps, begun, break_off, desk_of, finish_job, finished_by, hear, heard, is_filled, met, on_turn, ran, left_by_refusal, runs, said_by, send, state_at, take_job, takes, tells, took}
 use Rattle.ls_steps.specs.Comes.{ComesTo, EndWith, after, come}
 
 -- a desk with what is left of its base and journal
@@ -57,7 +57,7 @@ told_comes : (d : Seen) (o : Option (List ℕ)) → Follows d (with_left d (tell
 told_comes d None = none_comes d
 told_comes d (Some body) = said_comes d body (full_fault d 2)
 
-refused_comes : (d : Seen) (id : Option Id) (f : DeskFault) → Follows d (with_left d (refused d id f))
+refused_comes : (d : Seen) (id : Option Id) (f : DeskFault) → Follows d (with_left d (left_by_refusal d id f))
 refused_comes d id fault.SessionFull = none_comes d
 refused_comes d id fault.NotOpen = told_comes d (refusal_to id fault.NotOpen)
 refused_comes d id fault.AlreadyOpen = told_comes d (refusal_to id fault.AlreadyOpen)
@@ -114,7 +114,7 @@ if_comes d false g k p q = q
 same_comes : (d : Seen) (g h : Going) → h ≡ g → Follows d (desk_of g) → Follows d (desk_of h)
 same_comes d g h is p = subst (λ (x : Going). Follows d (desk_of x)) (sym is) p
 
-sent_comes : (g h : Going) (es : List Entry) (bytes : List ℕ) → IsSent g es h bytes → Follows (desk_of g) (desk_of h)
+sent_comes : (g h : Going) (es : List OutboxEntry) (bytes : List ℕ) → IsSent g es h bytes → Follows (desk_of g) (desk_of h)
 sent_comes g h [] bytes s = same_comes (desk_of g) g h s.0 (none_comes (desk_of g))
 sent_comes g h (e ∷ es) bytes s = same_comes (desk_of g) _ h s.0 (one_comes (desk_of g) (Sent _))
 
@@ -163,7 +163,7 @@ end_by events d e true true end = record {
   past = events;
   events_are = refl;
   state_is = ap replay end.events_are ∙ (replay_append start end.past d.journal ∙ ap (λ (s : State). replay_from s d.journal) end.state_is);
-  counts_are = ap (counted no_events) end.events_are ∙ (counted_append no_events end.past d.journal ∙ ap (λ (c : Counts). counted c d.journal) end.counts_are);
+  counts_are = ap (counted_with no_events) end.events_are ∙ (counted_append no_events end.past d.journal ∙ ap (λ (c : Counts). counted_with c d.journal) end.counts_are);
 }
 
 end_after : (events : List Event) (d : Seen) (e : Event) → EndWith events d → EndWith (events ++ e ∷ []) (after d e)

@@ -12,7 +12,7 @@ use Rattle.ls_steps.specs.declared.steps.Step.TheVariants as step
 use Rattle.ls_rpc.specs.Message.{message_of}
 use Rattle.ls_answers.specs.declared.answer.Answer.{Answer}
 use Rattle.ls_machine.specs.declared.event.DeskFault.{DeskFault}
-use Rattle.ls_machine.specs.declared.state.Entry.{Entry}
+use Rattle.ls_machine.specs.declared.state.OutboxEntry.{OutboxEntry}
 use Rattle.ls_machine.specs.declared.state.Waiting.{Waiting}
 use Rattle.ls_desk.specs.Faults.{take_fault}
 use Rattle.ls_machine.specs.Machine.{is_queued}
@@ -219,7 +219,7 @@ runs_most : (g : Going) (at : ℕ) (answer : Option Answer) (job : Option Held) 
 runs_most g at answer None = refl
 runs_most g at answer (Some job) = refl
 
-sent_most : (g h : Going) (es : List Entry) (bytes : List ℕ) → IsSent g es h bytes → h.max_events ≡ g.max_events
+sent_most : (g h : Going) (es : List OutboxEntry) (bytes : List ℕ) → IsSent g es h bytes → h.max_events ≡ g.max_events
 sent_most g h [] bytes s = ap (λ (x : Going). x.max_events) s.0
 sent_most g h (e ∷ es) bytes s = ap (λ (x : Going). x.max_events) s.0
 

@@ -16,11 +16,11 @@ use Rattle.ls_machine.specs.declared.event.Event.TheVariants.{Finished, Said, Se
 use Rattle.ls_machine.specs.declared.event.DeskFault.{DeskFault}
 use Rattle.ls_machine.specs.declared.event.DeskFault.TheVariants as fault
 use Rattle.ls_machine.specs.declared.state.Document.{Document}
-use Rattle.ls_machine.specs.declared.state.Entry.{Entry}
-use Rattle.ls_machine.specs.declared.state.Entry.TheVariants.{Body}
+use Rattle.ls_machine.specs.declared.state.OutboxEntry.{OutboxEntry}
+use Rattle.ls_machine.specs.declared.state.OutboxEntry.TheVariants.{Body}
 use Rattle.ls_machine.specs.declared.state.State.{State}
 use Rattle.ls_machine.specs.declared.state.Waiting.{Waiting}
-use Rattle.ls_machine.specs.Counts.{counted, is_client, total}
+use Rattle.ls_machine.specs.Counts.{counted_with, is_client, total}
 use Rattle.ls_machine.specs.Journal.{replay_from, IsLegalFrom, IsPast}
 use Rattle.ls_machine.specs.Laws.{WasEntryCurrent, WereEntriesCurrent}
 use Rattle.ls_machine.specs.Machine.{IsPossible, step, ask_at, asks_with, close_text, document_of, edited_at, ends, id_waits, is_held, is_open, is_queued, first_ticket, left_at, put_text, request_cancelled, requests, rest, ticket_of, told_if_found}
@@ -31,14 +31,14 @@ use Rattle.ls_machine.specs.declared.client.ClientEvent.TheVariants.{DidOpen, Di
 use Rattle.ls_machine.specs.Client.{asker_of}
 use Rattle.ls_machine.specs.Same.{is_for}
 use Rattle.ls_desk.specs.Anew.{base_after, journal_after}
-use Rattle.ls_desk.specs.Faults.{finish_fault, full_fault, is_full, or_else, take_fault}
+use Rattle.ls_desk.specs.Faults.{finish_fault, full_fault, is_session_full, or_else, take_fault}
 use Rattle.ls_desk.specs.Stands.{Seen, WasCurrentAt, counts_of, is_long, state_of}
 use Rattle.ls_session.specs.Session.{turn_of}
 use Rattle.ls_session.specs.declared.turn.Turn.{Turn}
 use Rattle.ls_session.specs.declared.turn.Turn.TheVariants.{Nothing, Event as Happens, Exit}
 use Rattle.ls_desk.specs.Door.{client_fault, entered_at}
 use Rattle.ls_session.specs.Bodies.{refusal_to}
-use Rattle.ls_steps.specs.Runs.{Act, Going, Held, IsSent, Left, Runs, Steps, begun, break_off, desk_of, entered, finish_job, finished_by, hear, heard, is_filled, met, on_turn, ran, refused, runs, said_by, send, state_at, take_job, takes, tells, took}
+use Rattle.ls_steps.specs.Runs.{Act, Going, Held, IsSent, Left, Runs, Steps, begun, break_off, desk_of, entered, finish_job, finished_by, hear, heard, is_filled, met, on_turn, ran, left_by_refusal, runs, said_by, send, state_at, take_job, takes, tells, took}
 use Rattle.ls_steps.proofs.Entered.{entered_state}
 use Rattle.ls_machine.proofs.ShortTexts.{AreShort, IsFine, IsShortEvent, short_chars_of, short_step}
 
@@ -46,7 +46,7 @@ use Rattle.ls_machine.proofs.ShortTexts.{AreShort, IsFine, IsShortEvent, short_c
 pub record IsLawful (most : ℕ) (base : Base) (journal : List Event) : Type 0 where
   pub past : (past : List Event) × IsPast most base past
   pub legal : IsLegalFrom most (total base.counts) base.state journal
-  pub fits : total (counted base.counts journal) + length (replay_from base.state journal).unsent ≤ most
+  pub fits : total (counted_with base.counts journal) + length (replay_from base.state journal).unsent ≤ most
 
 -- beside that the texts are short
 pub record IsGood (most : ℕ) (base : Base) (journal : List Event) : Type 0 where
@@ -65,29 +65,29 @@ GoodLeft most left = IsGood most left.base left.journal
 -- ---- an event comes
 
 lawful_pushed : (most : ℕ) (base : Base) (journal : List Event) (e : Event) → IsLawful most base journal → IsPossible (replay_from base.state journal) e
-    → total (counted base.counts journal) + 1 + length (step (replay_from base.state journal) e).unsent ≤ most → IsLawful most base (journal ++ e ∷ [])
+    → total (counted_with base.counts journal) + 1 + length (step (replay_from base.state journal) e).unsent ≤ most → IsLawful most base (journal ++ e ∷ [])
 lawful_pushed most base journal e law possible room =
     let count = total_counted base.counts journal in
-    let one = ap total (counted_push base.counts journal e) ∙ total_one (counted base.counts journal) e in
+    let one = ap total (counted_push base.counts journal e) ∙ total_one (counted_with base.counts journal) e in
     record {
       past = law.past;
       legal = legal_push most (total base.counts) base.state journal e law.legal possible (omega (arith, count, room));
-      fits = subst (λ (s : State). total (counted base.counts (journal ++ e ∷ [])) + length s.unsent ≤ most) (sym (replay_push base.state journal e)) (omega (arith, one, room));
+      fits = subst (λ (s : State). total (counted_with base.counts (journal ++ e ∷ [])) + length s.unsent ≤ most) (sym (replay_push base.state journal e)) (omega (arith, one, room));
     }
 
 -- the journal begins anew
 lawful_anew : (most : ℕ) (base : Base) (journal : List Event) (n : ℕ) → IsLawful most base journal
-    → IsLawful most (record { state = replay_from base.state journal; counts = counted base.counts journal; checkpoints = n }) []
-unfolding counted replay_from
+    → IsLawful most (record { state = replay_from base.state journal; counts = counted_with base.counts journal; checkpoints = n }) []
+unfolding counted_with replay_from
 lawful_anew most base journal n law = record {
   past = (law.past.0 ++ journal, past_more most base law.past.0 journal n law.past.1 law.legal);
-  legal = legal_none most (total (counted base.counts journal)) (replay_from base.state journal);
+  legal = legal_none most (total (counted_with base.counts journal)) (replay_from base.state journal);
   fits = law.fits;
 }
 
 lawful_by : (d : Seen) (e : Event) (b c : Bool) → IsLawful d.max_events d.base d.journal → IsPossible (state_of d) e → total (counts_of d) + 1 + length (step (state_of d) e).unsent ≤ d.max_events
     → IsLawful d.max_events (base_after (cond b (cond c (Some (state_of d)) None) None) (counts_of d) d.base) (journal_after (cond b (cond c (Some (state_of d)) None) None) d.journal ++ e ∷ [])
-unfolding counted replay_from
+unfolding counted_with replay_from
 lawful_by d e false c law possible room = lawful_pushed d.max_events d.base d.journal e law possible room
 lawful_by d e true false law possible room = lawful_pushed d.max_events d.base d.journal e law possible room
 lawful_by d e true true law possible room =
@@ -108,7 +108,7 @@ or_none true f next e = absurd (cc)
 or_none false f next e = (refl, e)
 
 room_for : (d : Seen) (need : ℕ) → full_fault d need ≡ None → total (counts_of d) + length (state_of d).unsent + need ≤ d.max_events
-room_for d need e = ltb-false d.max_events (total (counts_of d) + length (state_of d).unsent + need) (or_none (is_full d need) fault.SessionFull None e).0
+room_for d need e = ltb-false d.max_events (total (counts_of d) + length (state_of d).unsent + need) (or_none (is_session_full d need) fault.SessionFull None e).0
 
 -- ---- a client's event
 
@@ -181,7 +181,7 @@ good_told : (d : Seen) (o : Option (List ℕ)) → GoodAt d → GoodLeft d.max_e
 good_told d None good = good
 good_told d (Some body) good = good_said d body (full_fault d 2) refl good
 
-good_refused : (d : Seen) (id : Option Id) (f : DeskFault) → GoodAt d → GoodLeft d.max_events (refused d id f)
+good_refused : (d : Seen) (id : Option Id) (f : DeskFault) → GoodAt d → GoodLeft d.max_events (left_by_refusal d id f)
 good_refused d id fault.SessionFull good = good
 good_refused d id fault.NotOpen good = good_told d (refusal_to id fault.NotOpen) good
 good_refused d id fault.AlreadyOpen good = good_told d (refusal_to id fault.AlreadyOpen) good
@@ -217,7 +217,7 @@ unfolding IsPossible step
 good_took g w None found e good =
     let d = desk_of g in
     let queued = some_found (find is_queued (state_at g).waiting) w found in
-    let free = none_full (is_some (find is_queued (state_of d).waiting)) (is_full d 1) queued (or_none (is_some (find is_queued (state_of d).waiting) && is_full d 1) fault.SessionFull None e).0 in
+    let free = none_full (is_some (find is_queued (state_of d).waiting)) (is_session_full d 1) queued (or_none (is_some (find is_queued (state_of d).waiting) && is_session_full d 1) fault.SessionFull None e).0 in
     let room = ltb-false d.max_events (total (counts_of d) + length (state_of d).unsent + 1) free in
     good_entered d (Took 0) good queued (omega (arith, room)) tt
 good_took g w (Some f) found e good = good
@@ -257,7 +257,7 @@ good_runs g k answer (Some job) good = good_finished (desk_of g) (ran job answer
 
 -- ---- what leaves
 
-good_sent : (g h : Going) (es : List Entry) (bytes : List ℕ) → (state_at g).unsent ≡ es → IsSent g es h bytes → Good g → Good h
+good_sent : (g h : Going) (es : List OutboxEntry) (bytes : List ℕ) → (state_at g).unsent ≡ es → IsSent g es h bytes → Good g → Good h
 unfolding IsPossible step
 good_sent g h [] bytes u s good = subst Good (sym s.0) good
 good_sent g h (e ∷ es) bytes u s good =
@@ -290,7 +290,7 @@ good_run f g h [] bytes r good = subst Good (sym r.0) good
 good_run f g h (act ∷ acts) bytes r good = good_run f r.0 h acts r.2 r.3.1 (good_step f g r.0 act r.1 r.3.0 good)
 
 pub good_begun : Good begun
-unfolding counted replay_from
+unfolding counted_with replay_from
 good_begun = record {
   lawful = record { past = ([], past_first 18446744073709551614); legal = legal_none 18446744073709551614 0 begun.base.state; fits = omega arith };
   short = record { documents = tt; waiting = tt; unsent = tt };
@@ -303,12 +303,12 @@ current_in : (most : ℕ) (base : Base) (journal past : List Event) → IsPast m
 current_in most base journal past is legal =
     subst (λ (s : State). WereEntriesCurrent (past ++ journal) s.unsent) (past_state most base past journal is) (ordered most (past ++ journal) (past_legal most base past journal is legal)).unsent
 
-first_of : (journal : List Event) (e : Entry) (es : List Entry) → WereEntriesCurrent journal (e ∷ es) → WasEntryCurrent journal e
+first_of : (journal : List Event) (e : OutboxEntry) (es : List OutboxEntry) → WereEntriesCurrent journal (e ∷ es) → WasEntryCurrent journal e
 unfolding WereEntriesCurrent
 first_of journal e es h = h.0
 
 -- the text of the first entry was current when it was asked
-pub first_current : (d : Seen) (e : Entry) (es : List Entry) → IsLawful d.max_events d.base d.journal → (state_of d).unsent ≡ e ∷ es → WasCurrentAt d e
+pub first_current : (d : Seen) (e : OutboxEntry) (es : List OutboxEntry) → IsLawful d.max_events d.base d.journal → (state_of d).unsent ≡ e ∷ es → WasCurrentAt d e
 first_current d e es law u =
     let past = law.past in
     (past.0, past.1, first_of (past.0 ++ d.journal) e es (subst (WereEntriesCurrent (past.0 ++ d.journal)) u (current_in d.max_events d.base d.journal past.0 past.1 law.legal)))

@@ -8,8 +8,8 @@ use Rattle.ls_answers.proofs.Documents.{one_document_answer}
 use Rattle.ls_machine.specs.declared.event.Out.{Out}
 use Rattle.ls_machine.specs.declared.event.DeskFault.{DeskFault}
 use Rattle.ls_machine.specs.declared.event.DeskFault.TheVariants as fault
-use Rattle.ls_machine.specs.declared.state.Entry.{Entry}
-use Rattle.ls_machine.specs.declared.state.Entry.TheVariants.{Body, Failure, Outcome}
+use Rattle.ls_machine.specs.declared.state.OutboxEntry.{OutboxEntry}
+use Rattle.ls_machine.specs.declared.state.OutboxEntry.TheVariants.{Body, Failure, Outcome}
 use Rattle.ls_machine.specs.declared.state.Request.{Request}
 use Rattle.ls_machine.specs.declared.state.Waiting.{Waiting}
 use Rattle.ls_desk.specs.Stands.{IsOutFor, Seen, out_of, state_of}
@@ -77,7 +77,7 @@ one_told : (w : Waiting) (r : Option Request) (a b : Answer) → IsAnswer w.enco
 one_told w None a b p q = same_findings w.uri w.label a b (one_document_answer w.encoding w.text w.ask a b p q)
 one_told w (Some r) a b p q = same_reply r.id w.uri w.label r.links a b (one_document_answer w.encoding w.text w.ask a b p q)
 
-one_body : (e : Entry) (o p : Out) (a b : List ℕ) → IsOutFor e o → IsOutFor e p → body_of o ≡ Some a → body_of p ≡ Some b → a ≡ b
+one_body : (e : OutboxEntry) (o p : Out) (a b : List ℕ) → IsOutFor e o → IsOutFor e p → body_of o ≡ Some a → body_of p ≡ Some b → a ≡ b
 unfolding IsOutFor
 one_body (Body body) o p a b x y s t = same_Some a b (sym s ∙ (ap body_of (x ∙ sym y) ∙ t))
 one_body (Failure ticket id code) o p a b x y s t = same_Some a b (sym s ∙ (ap body_of (x ∙ sym y) ∙ t))
@@ -88,7 +88,7 @@ one_body (Outcome w) o p a b x y s t =
     ∙ (ap Some (one_told w w.request x.2.right.0 y.2.right.0 x.2.right.2 y.2.right.2)
     ∙ (sym (body_told w p y.0 y.2.right.0 y.1 y.2.right.1) ∙ t))))
 
-one_sent : (g h k : Going) (es : List Entry) (a b : List ℕ) → IsSent g es h a → IsSent g es k b → (h ≡ k) × (a ≡ b)
+one_sent : (g h k : Going) (es : List OutboxEntry) (a b : List ℕ) → IsSent g es h a → IsSent g es k b → (h ≡ k) × (a ≡ b)
 one_sent g h k [] a b p q = (p.0 ∙ sym q.0, p.1 ∙ sym q.1)
 one_sent g h k (e ∷ es) a b p q =
     let x = p.2 in

@@ -8,14 +8,14 @@ use Rattle.ls_answers.specs.declared.answer.Answer.{Answer}
 use Rattle.ls_machine.specs.declared.event.Event.TheVariants.{Finished, Sent, Took}
 use Rattle.ls_machine.specs.declared.event.DeskFault.{DeskFault}
 use Rattle.ls_machine.specs.declared.event.DeskFault.TheVariants as fault
-use Rattle.ls_machine.specs.declared.state.Entry.{Entry}
+use Rattle.ls_machine.specs.declared.state.OutboxEntry.{OutboxEntry}
 use Rattle.ls_machine.specs.declared.state.Waiting.{Waiting}
 use Rattle.ls_machine.specs.Machine.{step, first_ticket, is_queued, ticket_of, rest}
 use Rattle.ls_desk.specs.Faults.{finish_fault, take_fault}
 use Rattle.ls_desk.specs.Stands.{Seen, counts_of}
 use Rattle.ls_machine.specs.declared.base.Counts.{Counts}
 use Rattle.ls_machine.specs.declared.event.Event.{Event}
-use Rattle.ls_machine.specs.Counts.{counted, total}
+use Rattle.ls_machine.specs.Counts.{counted_with, total}
 use Rattle.ls_machine.proofs.Replays.{counted_push, replay_push, total_one}
 use Rattle.ls_steps.specs.Runs.{Going, Held, IsSent, Runs, Steps, bytes_in, counts_at, desk_of, finish_job, finished_by, is_filled, ran, runs, send, state_at, take_job, takes, took, unless_full}
 use Rattle.ls_steps.specs.Plain.{CanSendAll, Replies, RunsUntil, Works, has_run_all, has_sent_all, job_acts}
@@ -66,8 +66,8 @@ works_end g t p taken = works_by g t (has_run_all g) refl p taken
 
 -- ---- events come
 
-one_counted : (c : Counts) (es : List Event) (e : Event) → total (counted c (es ++ e ∷ [])) ≡ total (counted c es) + 1
-one_counted c es e = ap total (counted_push c es e) ∙ total_one (counted c es) e
+one_counted : (c : Counts) (es : List Event) (e : Event) → total (counted_with c (es ++ e ∷ [])) ≡ total (counted_with c es) + 1
+one_counted c es e = ap total (counted_push c es e) ∙ total_one (counted_with c es) e
 
 pub record Grew (g t : Going) (by : ℕ) : Type 0 where
   pub longer : by + total (counts_at g) ≤ total (counts_at t)
@@ -90,7 +90,7 @@ take_grew g t p taken =
     let parts = both (has_run_all g) (is_filled t.status) taken in
     take_grew_by g t (is_filled g.status) (find is_queued (state_at g).waiting) refl parts.0 parts.1 p.0
 
-finished_grew : (d : Seen) (done : Told) (o : Option DeskFault) → total (counts_of d) ≤ total (counted (finished_by d done o).base.counts (finished_by d done o).journal)
+finished_grew : (d : Seen) (done : Told) (o : Option DeskFault) → total (counts_of d) ≤ total (counted_with (finished_by d done o).base.counts (finished_by d done o).journal)
 finished_grew d done None = omega (arith, one_counted d.base.counts d.journal (Finished done.ticket (is_none done.answer)))
 finished_grew d done (Some fault.SessionFull) = omega arith
 finished_grew d done (Some fault.NotOpen) = omega arith
@@ -127,7 +127,7 @@ room_shrinks g t m p taken fits q =
 
 -- ---- what leaves
 
-pub left_is : (g m : Going) (e : Entry) (es : List Entry) → (state_at g).unsent ≡ e ∷ es → m ≡ record g { journal = g.journal ++ Sent (ticket_of e) ∷ [] } → (state_at m).unsent ≡ es
+pub left_is : (g m : Going) (e : OutboxEntry) (es : List OutboxEntry) → (state_at g).unsent ≡ e ∷ es → m ≡ record g { journal = g.journal ++ Sent (ticket_of e) ∷ [] } → (state_at m).unsent ≡ es
 unfolding step
 left_is g m e es u s =
     ap (λ (x : Going). (state_at x).unsent) s ∙ (ap (λ x. x.unsent) (replay_push g.base.state g.journal (Sent (ticket_of e))) ∙ ap rest u)
@@ -146,7 +146,7 @@ pub record OneSent (g m : Going) (frame : List ℕ) : Type 0 where
   pub more : has_sent_all g ≡ false
   pub fewer : length (state_at m).unsent < length (state_at g).unsent
 
-fewer_by : (g m : Going) (es : List Entry) (frame : List ℕ) → (state_at g).unsent ≡ es → is_some (first_ticket es) ≡ true → IsSent g es m frame → length (state_at m).unsent < length (state_at g).unsent
+fewer_by : (g m : Going) (es : List OutboxEntry) (frame : List ℕ) → (state_at g).unsent ≡ es → is_some (first_ticket es) ≡ true → IsSent g es m frame → length (state_at m).unsent < length (state_at g).unsent
 fewer_by g m [] frame u some s = absurd (cc)
 fewer_by g m (e ∷ es) frame u some s = omega (arith, ap length (left_is g m e es u s.0), ap length u)
 
@@ -176,7 +176,7 @@ replies_end g m (Some frame) n s u = absurd (n frame refl)
 
 -- ---- what is left to send
 
-once_sent : (g h k : Going) (es : List Entry) (a b : List ℕ) → IsSent g es h a → IsSent g es k b → h ≡ k
+once_sent : (g h k : Going) (es : List OutboxEntry) (a b : List ℕ) → IsSent g es h a → IsSent g es k b → h ≡ k
 once_sent g h k [] a b p q = p.0 ∙ sym q.0
 once_sent g h k (e ∷ es) a b p q = p.0 ∙ sym q.0
 

@@ -4,7 +4,7 @@ use Rattle.std.proofs.lemmas.List.{append-nil}
 use Rattle.std.specs.Prelude.{find, is_none, is_some, slice_get, ◌⊎◌, ◌||◌, if◌then◌else◌}
 use Rattle.ls_machine.specs.declared.event.Event.{Event}
 use Rattle.ls_machine.specs.declared.event.Event.TheVariants.{Sent}
-use Rattle.ls_machine.specs.declared.state.Entry.{Entry}
+use Rattle.ls_machine.specs.declared.state.OutboxEntry.{OutboxEntry}
 use Rattle.ls_machine.specs.declared.state.State.{State}
 use Rattle.ls_machine.specs.Machine.{first_ticket, step, is_queued, ticket_of}
 use Rattle.ls_machine.specs.Journal.{replay_from}
@@ -20,7 +20,7 @@ settled_begun = record { idle = refl; sent = refl }
 
 -- ---- what is left once all has been sent
 
-none_unsent : (es : List Entry) → is_none (first_ticket es) ≡ true → es ≡ []
+none_unsent : (es : List OutboxEntry) → is_none (first_ticket es) ≡ true → es ≡ []
 none_unsent [] e = refl
 none_unsent (x ∷ es) e = absurd (cc)
 
@@ -29,11 +29,11 @@ unfolding RunsUntil
 until_done f is_done acts zero g h bytes w = ap is_done w.1 ∙ w.0
 until_done f is_done acts (suc n) g h bytes w = let x = w.1 in until_done f is_done acts n x.0 h x.2 x.3.1
 
-one_waits : (s : State) (journal : List Event) (e : Entry) → (replay_from s (journal ++ Sent (ticket_of e) ∷ [])).waiting ≡ (replay_from s journal).waiting
+one_waits : (s : State) (journal : List Event) (e : OutboxEntry) → (replay_from s (journal ++ Sent (ticket_of e) ∷ [])).waiting ≡ (replay_from s journal).waiting
 unfolding step
 one_waits s journal e = ap (λ z. z.waiting) (replay_push s journal (Sent (ticket_of e)))
 
-sent_idle : (g h : Going) (es : List Entry) (bytes : List ℕ) → IsSent g es h bytes → has_run_all h ≡ has_run_all g
+sent_idle : (g h : Going) (es : List OutboxEntry) (bytes : List ℕ) → IsSent g es h bytes → has_run_all h ≡ has_run_all g
 sent_idle g h [] bytes s = ap has_run_all s.0
 sent_idle g h (e ∷ es) bytes s = ap has_run_all s.0 ∙ ap (λ ws. is_filled g.status || is_none (find is_queued ws)) (one_waits g.base.state g.journal e)
 

@@ -12,8 +12,8 @@ use Rattle.ls_machine.specs.declared.event.Out.{Out}
 use Rattle.ls_machine.specs.declared.event.Out.TheVariants as out
 use Rattle.ls_machine.specs.declared.event.DeskFault.{DeskFault}
 use Rattle.ls_machine.specs.declared.event.DeskFault.TheVariants as fault
-use Rattle.ls_machine.specs.declared.state.Entry.{Entry}
-use Rattle.ls_machine.specs.declared.state.Entry.TheVariants.{Body, Failure, Outcome}
+use Rattle.ls_machine.specs.declared.state.OutboxEntry.{OutboxEntry}
+use Rattle.ls_machine.specs.declared.state.OutboxEntry.TheVariants.{Body, Failure, Outcome}
 use Rattle.ls_machine.specs.declared.state.Waiting.{Waiting}
 use Rattle.ls_machine.specs.Machine.{first_ticket, step, is_held, is_queued, on_first, ticket_of, with_taken, without_first_job}
 use Rattle.ls_machine.specs.declared.state.State.{State}
@@ -112,13 +112,13 @@ progress g w answer None free found =
 
 -- ---- what leaves
 
-record Leaving (e : Entry) : Type 0 where
+record Leaving (e : OutboxEntry) : Type 0 where
   leaves : Out
   body : List ℕ
   is_for : IsOutFor e leaves
   body_is : body_of leaves ≡ Some body
 
-some_out : (e : Entry) → IsShortEntry e → Leaving e
+some_out : (e : OutboxEntry) → IsShortEntry e → Leaving e
 unfolding IsOutFor body_of
 some_out (Body body) h = record { leaves = out.Said body; body = body; is_for = refl; body_is = refl }
 some_out (Failure ticket id code) h = record { leaves = out.Failed ticket id code; body = failure_body id code; is_for = refl; body_is = refl }
@@ -140,7 +140,7 @@ record Next (g : Going) (act : Act) : Type 0 where
   bytes : List ℕ
   steps : Steps false g act left bytes
 
-some_sent : (g : Going) (es : List Entry) → (state_at g).unsent ≡ es → Good g → (h : Going) × (bytes : List ℕ) × IsSent g es h bytes
+some_sent : (g : Going) (es : List OutboxEntry) → (state_at g).unsent ≡ es → Good g → (h : Going) × (bytes : List ℕ) × IsSent g es h bytes
 some_sent g [] u good = (g, [], (refl, refl))
 some_sent g (e ∷ es) u good =
     let o = some_out e (subst (Each IsShortEntry) u good.short.unsent).0 in
@@ -233,11 +233,11 @@ pub record Replied (g : Going) : Type 0 where
   pub sends : Replies false replies g left bytes
   pub good : Good left
 
-unsent_after : (g m : Going) (e : Entry) (es : List Entry) (bytes : List ℕ) → (state_at g).unsent ≡ e ∷ es → Steps false g send m bytes → (state_at m).unsent ≡ es
+unsent_after : (g m : Going) (e : OutboxEntry) (es : List OutboxEntry) (bytes : List ℕ) → (state_at g).unsent ≡ e ∷ es → Steps false g send m bytes → (state_at m).unsent ≡ es
 unfolding Steps
 unsent_after g m e es bytes u s = left_is g m e es u (subst (λ l. IsSent g l m bytes) u s).0
 
-pub some_replies : (es : List Entry) (g : Going) → (state_at g).unsent ≡ es → Good g → Replied g
+pub some_replies : (es : List OutboxEntry) (g : Going) → (state_at g).unsent ≡ es → Good g → Replied g
 unfolding RunsUntil
 some_replies [] g u good = record { replies = 0; left = g; bytes = []; sends = (ap (λ l. is_none (first_ticket l)) u, refl, refl); good = good }
 some_replies (e ∷ es) g u good =

@@ -15,14 +15,14 @@ use Rattle.ls_machine.specs.declared.event.Event.TheVariants.{Sent}
 use Rattle.ls_machine.specs.declared.event.Out.{Out}
 use Rattle.ls_machine.specs.declared.event.DeskFault.{DeskFault}
 use Rattle.ls_machine.specs.declared.event.DeskFault.TheVariants as fault
-use Rattle.ls_machine.specs.declared.state.Entry.{Entry}
+use Rattle.ls_machine.specs.declared.state.OutboxEntry.{OutboxEntry}
 use Rattle.ls_machine.specs.declared.state.Waiting.{Waiting}
 use Rattle.ls_machine.specs.Counts.{first}
 use Rattle.ls_machine.specs.Journal.{IsCutAt, IsLegalFrom, replay_from}
 use Rattle.ls_machine.proofs.Replays.{past_first}
 use Rattle.ls_machine.specs.Machine.{IsPossible, first_ticket, is_queued, ticket_of}
 use Rattle.ls_desk.specs.Stands.{AreOutsFor, IsSound, Seen, Sends, state_of, ticket_of_out}
-use Rattle.ls_desk.specs.Faults.{IsFirstCause, IsJobOf, Refuses, Takes, is_full, or_else, take_fault}
+use Rattle.ls_desk.specs.Faults.{IsFirstCause, IsJobOf, Refuses, Takes, is_session_full, or_else, take_fault}
 use Rattle.ls_session.specs.Bodies.{body_of}
 use Rattle.ls_session.specs.Session.{turn_of}
 use Rattle.ls_machine.specs.declared.client.ClientEvent.{ClientEvent}
@@ -41,7 +41,7 @@ sound_start : (longest most : ℕ) → IsSound (record { base = first; journal =
 unfolding IsLegalFrom IsCutAt replay_from AreOutsFor
 sound_start longest most = record { past = ([], past_first most); first_is = λ h. refl; legal = tt; cut = tt; outs = tt }
 
-outs_none : (es : List Entry) → AreOutsFor es [] → es ≡ []
+outs_none : (es : List OutboxEntry) → AreOutsFor es [] → es ≡ []
 unfolding AreOutsFor
 outs_none [] h = refl
 outs_none (e ∷ es) h = absurd h
@@ -135,7 +135,7 @@ takes_full stage d new held status x e n r =
     let g = over stage d held status in
     let f = first_of (take_fault d) x n r.cause in
     takes_then g (over stage new held (Some Full)) e
-    (ap (λ (s : Seen). over stage s held (Some Full)) r.same ∙ sym (takes_full_at g (find is_queued (state_of d).waiting) (is_full d 1) x f f))
+    (ap (λ (s : Seen). over stage s held (Some Full)) r.same ∙ sym (takes_full_at g (find is_queued (state_of d).waiting) (is_session_full d 1) x f f))
 
 -- ---- finish
 
@@ -208,12 +208,12 @@ pub sends_none : (stage : Stage) (d new : Seen) (held : List Held) (status : Opt
 unfolding Steps
 sends_none stage d new held status sound empty same =
     let g = over stage d held status in
-    let P : List Entry → Type 0 = λ es. IsSent g es (over stage new held status) [] in
+    let P : List OutboxEntry → Type 0 = λ es. IsSent g es (over stage new held status) [] in
     subst P (sym (nothing_unsent d sound empty)) (ap (λ (s : Seen). over stage s held status) same, refl)
 
-first_is_holds : (es rest : List Entry) (e : Entry) (ticket : ℕ) → first_ticket es ≡ Some ticket → es ≡ e ∷ rest → ticket_of e ≡ ticket
+first_is_holds : (es rest : List OutboxEntry) (e : OutboxEntry) (ticket : ℕ) → first_ticket es ≡ Some ticket → es ≡ e ∷ rest → ticket_of e ≡ ticket
 first_is_holds es rest e ticket f s =
-    let P : List Entry → Type 0 = λ l. first_ticket l ≡ Some ticket in
+    let P : List OutboxEntry → Type 0 = λ l. first_ticket l ≡ Some ticket in
     let h : Some (ticket_of e) ≡ Some ticket = subst P s f in cc
 
 pub sends_one : (stage : Stage) (d new : Seen) (held : List Held) (status : Option Status) (out : Out) (body frame : List ℕ)
@@ -224,7 +224,7 @@ sends_one stage d new held status out body frame s b f =
     let e = s.stands_for.0 in
     let t : ticket_of e ≡ ticket_of_out out = first_is_holds _ s.stands_for.1 e _ s.enters.possible s.stands_for.2 in
     let j : new.journal ≡ d.journal ++ Sent (ticket_of e) ∷ [] = s.enters.journal ∙ ap (λ n. d.journal ++ Sent n ∷ []) (sym t) in
-    let P : List Entry → Type 0 = λ es. IsSent g es (over stage new held status) frame in
+    let P : List OutboxEntry → Type 0 = λ es. IsSent g es (over stage new held status) frame in
     let same : over stage new held status ≡ record g { journal = d.journal ++ Sent (ticket_of e) ∷ [] }
     = λ i. record { stage = stage; base = s.enters.base i; journal = j i; max_journal = s.enters.most_journal i; max_events = s.enters.most i; held = held; status = status } in
     subst P (sym s.stands_for.2) (same, s.was_current, (out, body, s.stands_for.3, sym b, f))

@@ -1,7 +1,7 @@
 -- The events of a session: all that a run enters, of which the desk's journal is the end.
 use Rattle.std.specs.Prelude.{◌≡◌, ℕ, List, [], ◌∷◌, ◌++◌, Bool}
 use Rattle.ls_machine.specs.declared.event.Event.{Event}
-use Rattle.ls_machine.specs.Counts.{counted, no_events}
+use Rattle.ls_machine.specs.Counts.{counted_with, no_events}
 use Rattle.ls_machine.specs.Journal.{replay}
 use Rattle.ls_desk.specs.Stands.{Seen}
 use Rattle.ls_steps.specs.Runs.{Act, Going, Runs, begun, desk_of, entered}
@@ -24,7 +24,7 @@ pub record EndWith (events : List Event) (d : Seen) : Type 0 where
   pub past : List Event
   pub events_are : events ≡ past ++ d.journal
   pub state_is : replay past ≡ d.base.state
-  pub counts_are : counted no_events past ≡ d.base.counts
+  pub counts_are : counted_with no_events past ≡ d.base.counts
 
 -- The desk of each run from the beginning has come about by events, one after the other, which end with its journal, and those before it
 -- lead to its base.

@@ -55,15 +55,15 @@ Says may_fail g (body ∷ bodies) h bytes = (mid : Going) × (now : List ℕ) ×
     × (Serves may_fail g body mid now × Says may_fail mid bodies h later × (bytes ≡ now ++ later))
 
 -- acts, so many times
-abbrev pub times : ℕ → List Act → List Act
-times zero acts = []
-times (suc n) acts = acts ++ times n acts
+abbrev pub many_times : ℕ → List Act → List Act
+many_times zero acts = []
+many_times (suc n) acts = acts ++ many_times n acts
 
 -- These are the acts of the schedule on these messages: each is heard, so many jobs are taken and run, and so many replies sent.
 unfoldable pub AreServing : List (List ℕ) → List Act → Type 0
 AreServing [] acts = acts ≡ []
 AreServing (body ∷ bodies) acts = (jobs : ℕ) × (replies : ℕ) × (later : List Act)
-    × (AreServing bodies later × (acts ≡ hear body ∷ times jobs job_acts ++ (times replies (send ∷ []) ++ later)))
+    × (AreServing bodies later × (acts ≡ hear body ∷ many_times jobs job_acts ++ (many_times replies (send ∷ []) ++ later)))
 
 -- Nothing is left to run or to send, as between two messages.
 pub record IsAtRest (g : Going) : Type 0 where

@@ -21,12 +21,12 @@ use Rattle.ls_machine.specs.declared.event.Out.{Out}
 use Rattle.ls_machine.specs.declared.event.DeskFault.{DeskFault}
 use Rattle.ls_machine.specs.declared.event.DeskFault.TheVariants.{SessionFull}
 use Rattle.ls_machine.specs.declared.state.Waiting.{Waiting}
-use Rattle.ls_machine.specs.declared.state.Entry.{Entry}
+use Rattle.ls_machine.specs.declared.state.OutboxEntry.{OutboxEntry}
 use Rattle.ls_machine.specs.declared.state.State.{State}
 use Rattle.ls_machine.specs.Machine.{is_queued, ticket_of}
 use Rattle.ls_machine.specs.declared.base.Base.{Base}
 use Rattle.ls_machine.specs.declared.base.Counts.{Counts}
-use Rattle.ls_machine.specs.Counts.{counted, first}
+use Rattle.ls_machine.specs.Counts.{counted_with, first}
 use Rattle.ls_machine.specs.Journal.{replay_from}
 use Rattle.ls_desk.specs.Anew.{base_after, journal_after}
 use Rattle.ls_desk.specs.Stands.{Seen, IsOutFor, WasCurrentAt, counts_of, fresh_for, state_of}
@@ -89,7 +89,7 @@ state_at g = replay_from g.base.state g.journal
 
 -- how many events of each kind there were over the session
 abbrev pub counts_at : Going → Counts
-counts_at g = counted g.base.counts g.journal
+counts_at g = counted_with g.base.counts g.journal
 
 -- ---- what a step leaves at the desk: its base and journal, and whether the session is full
 
@@ -125,14 +125,14 @@ tells d (Some body) = said_by d body (full_fault d 2)
 
 -- What a refusal leaves. Where there is no room the session is full. Else a refused request is answered by its error, and all other refused
 -- events are dropped.
-abbrev pub refused : Seen → Option Id → DeskFault → Left
-refused d id SessionFull = left_full d
-refused d id fault = tells d (refusal_to id fault)
+abbrev pub left_by_refusal : Seen → Option Id → DeskFault → Left
+left_by_refusal d id SessionFull = left_full d
+left_by_refusal d id fault = tells d (refusal_to id fault)
 
 -- what an event of the client leaves at the desk, by what stands against it, if something does
 abbrev pub met : Seen → ClientEvent → Option DeskFault → Left
 met d event None = entered d (entered_at (state_of d) event)
-met d event (Some fault) = refused d (asker_of event) fault
+met d event (Some fault) = left_by_refusal d (asker_of event) fault
 
 -- what an event of the client leaves at the desk: it is entered where nothing stands against it
 abbrev pub meets : Seen → ClientEvent → Left
@@ -205,7 +205,7 @@ runs g k answer (Some job) = leaving (record g { held = remove g.held k }) (fini
 
 -- The first unsent entry leaves, and the frame of a reply that stands for it is written: its answer is right for the job's text, which was
 -- current when it was asked about. Where none is unsent nothing happens.
-abbrev pub IsSent : Going → List Entry → Going → List ℕ → Type 0
+abbrev pub IsSent : Going → List OutboxEntry → Going → List ℕ → Type 0
 IsSent g [] h bytes = (h ≡ g) × (bytes ≡ [])
 IsSent g (e ∷ es) h bytes = (h ≡ record g { journal = g.journal ++ Sent (ticket_of e) ∷ [] })
     × WasCurrentAt (desk_of g) e

@@ -2,11 +2,11 @@
 ghost use Rattle.std.specs.Prelude.{◌≡◌, IfNone, IfOk, IfSome, Some, false};
 ghost use Rattle.std.specs.Arc.{arc_value};
 ghost use Rattle.ls_answers.specs.Asks.{IsToNoName};
-ghost use Rattle.ls_answers.specs.Remembered.{IsGone, nothing};
+ghost use Rattle.ls_answers.specs.Remembered.{IsGone, nothing_kept};
 ghost use Rattle.ls_answers.specs.declared.answer.Answer.TheVariants.{Refused};
 ghost use Rattle.ls_answers.specs.declared.answer.RenameFault.TheVariants.{NotAName};
 ghost use Rattle.ls_desk.specs.Stands.{IsSound, state_of};
-ghost use Rattle.ls_steps.specs.Runs.{finishes, meets, refused};
+ghost use Rattle.ls_steps.specs.Runs.{finishes, meets, left_by_refusal};
 ghost use Rattle.ls_steps.specs.own.Leaves.{IsLeft};
 ghost use Rattle.ls_machine.specs.Client.{IsAllowed};
 ghost use Rattle.ls_machine.specs.Machine.{waits};
@@ -21,7 +21,7 @@ use std::alloc::{AllocError as Memory, Global};
 
 /// Answers a refused request by its error, and gives whether the session is full.
 fn tell(alloc: Global, desk: &mut Desk, asker: Option<Id>, fault: DeskFault) -> Result<bool, Memory>
-    ensures left { IfOk result (λ full. IsLeft (refused desk.old asker fault) full desk.old desk.new) }
+    ensures left { IfOk result (λ full. IsLeft (left_by_refusal desk.old asker fault) full desk.old desk.new) }
     ensures sound { IsSound desk.old → IsSound desk.new }
 {
     if let DeskFault::SessionFull = fault {
@@ -41,7 +41,7 @@ fn tell(alloc: Global, desk: &mut Desk, asker: Option<Id>, fault: DeskFault) -> 
 /// text isn't known all that is kept goes.
 fn let_go(recent: &mut Recent, text: &Option<SharedSnapshot>)
     ensures near { IfSome text.now (λ _. IsGone recent.old recent.new) }
-    ensures all { IfNone text.now (recent.new ≡ nothing) }
+    ensures all { IfNone text.now (recent.new ≡ nothing_kept) }
 {
     match text {
         Some(text) => drop(recent.let_go(text.get())),

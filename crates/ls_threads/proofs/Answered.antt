@@ -14,7 +14,7 @@ use Rattle.ls_machine.specs.declared.event.DeskFault.{DeskFault}
 use Rattle.ls_machine.specs.declared.event.Event.{Event}
 use Rattle.ls_machine.specs.declared.event.Event.TheVariants.{Opened, Changed, Closed, Asked, Cancelled, Said, Took, Returned, Finished, Sent}
 use Rattle.ls_machine.specs.declared.event.Out.{Out}
-use Rattle.ls_machine.specs.declared.state.Entry.{Entry}
+use Rattle.ls_machine.specs.declared.state.OutboxEntry.{OutboxEntry}
 use Rattle.ls_machine.specs.declared.state.State.{State}
 use Rattle.ls_machine.specs.declared.state.Waiting.{Waiting}
 use Rattle.ls_machine.proofs.Once.{count_append, requests_once}
@@ -22,11 +22,11 @@ use Rattle.ls_desk.specs.Door.{entered_at}
 use Rattle.ls_desk.specs.Stands.{ticket_of_out}
 use Rattle.ls_history.specs.declared.history_entry.HistoryEntry.{HistoryEntry}
 use Rattle.ls_history.specs.declared.history_entry.HistoryEntry.TheVariants.{Began, Heard, Left, Stopped, Worked}
-use Rattle.ls_history.specs.History.{IsLegal, IsLegalFrom, is_workers, replay}
+use Rattle.ls_history.specs.History.{IsLegalHistory, IsLegalHistoryFrom, is_workers, replay_entries}
 use Rattle.ls_history.specs.Places.{Place, beginning, happens}
 use Rattle.ls_history.specs.Told.{event_of_reply, events_of, heard_of, outs_of, with_event}
 use Rattle.ls_history.proofs.Journals.{histories_journals}
-use Rattle.ls_threads.specs.Reading.{Replies}
+use Rattle.ls_threads.specs.Reading.{HeardReplies}
 use Rattle.ls_threads.proofs.Askers.{replies_to}
 use Rattle.ls_threads.specs.Laws.{EachRequest, IsAnsweredOnce}
 
@@ -39,7 +39,7 @@ none_left : (js : List Event) (t : ℕ) → (journal.replay js).waiting ≡ [] �
 unfolding told
 none_left js t w u =
     let a : count_by (has_ticket t) (journal.replay js).waiting ≡ 0 = ap (λ (ws : List Waiting). count_by (has_ticket t) ws) w in
-    let b : count_by (is_told_of t) (journal.replay js).unsent ≡ 0 = ap (λ (es : List Entry). count_by (is_told_of t) es) u in
+    let b : count_by (is_told_of t) (journal.replay js).unsent ≡ 0 = ap (λ (es : List OutboxEntry). count_by (is_told_of t) es) u in
     omega (arith, a, b)
 
 told_once : (most : ℕ) (js before later : List Event) (id : Id) (uri : List ℕ) (question : Ask) (links : Bool) (t : ℕ)
@@ -61,11 +61,11 @@ split_on (Some e) es y s = (e ∷ s.0, s.1, ap (λ l. e ∷ l) s.2)
 abbrev accepted : Id → List ℕ → Ask → Bool → ℕ → ClientEvent × Result ClientAnswer DeskFault
 accepted id uri question links t = (Request id uri question links, Ok (Ticket t))
 
-none_heard : (before later : Replies) (id : Id) (uri : List ℕ) (question : Ask) (links : Bool) (t : ℕ) → [] ≡ before ++ accepted id uri question links t ∷ later → ⊥
+none_heard : (before later : HeardReplies) (id : Id) (uri : List ℕ) (question : Ask) (links : Bool) (t : ℕ) → [] ≡ before ++ accepted id uri question links t ∷ later → ⊥
 none_heard [] later id uri question links t q = cc
 none_heard (x ∷ before) later id uri question links t q = cc
 
-heard_split : (log : List HistoryEntry) (before later : Replies) (id : Id) (uri : List ℕ) (question : Ask) (links : Bool) (t : ℕ)
+heard_split : (log : List HistoryEntry) (before later : HeardReplies) (id : Id) (uri : List ℕ) (question : Ask) (links : Bool) (t : ℕ)
     → heard_of log ≡ before ++ accepted id uri question links t ∷ later → Splits (events_of log) (Asked id uri question links t)
 heard_split [] before later id uri question links t q = absurd (none_heard before later id uri question links t q)
 heard_split (Began most ∷ log) before later id uri question links t q = heard_split log before later id uri question links t q
@@ -107,7 +107,7 @@ worker_sends (Returned ticket) is = refl
 worker_sends (Finished ticket failed) is = refl
 worker_sends (Sent ticket) is = absurd (cc (is))
 
-tickets_of : (p : Place) (log : List HistoryEntry) → IsLegalFrom p log → sent_tickets (events_of log) ≡ map ticket_of_out (outs_of log)
+tickets_of : (p : Place) (log : List HistoryEntry) → IsLegalHistoryFrom p log → sent_tickets (events_of log) ≡ map ticket_of_out (outs_of log)
 tickets_of p [] legal = refl
 tickets_of p (Began most ∷ log) legal = tickets_of (happens p (Began most)) log legal.1
 tickets_of p (Heard e (Ok answer) ∷ log) legal =
@@ -128,8 +128,8 @@ count_map (o ∷ outs) t =
 
 -- ---- so a legal history that leaves nothing behind has answered each request that it heard and accepted
 
-pub history_answers : (most : ℕ) (log : List HistoryEntry) → IsLegal log → (replay beginning log).limit ≡ Some most
-    → (replay beginning log).state.waiting ≡ [] → (replay beginning log).state.unsent ≡ [] → EachRequest (IsAnsweredOnce (outs_of log)) (heard_of log)
+pub history_answers : (most : ℕ) (log : List HistoryEntry) → IsLegalHistory log → (replay_entries beginning log).limit ≡ Some most
+    → (replay_entries beginning log).state.waiting ≡ [] → (replay_entries beginning log).state.unsent ≡ [] → EachRequest (IsAnsweredOnce (outs_of log)) (heard_of log)
 unfolding told
 history_answers most log legal limit waiting unsent = λ before later id uri question links ticket among.
     let is = histories_journals most log legal limit in

@@ -11,8 +11,8 @@ use Rattle.ls_machine.specs.Machine.{start, step}
 use Rattle.ls_machine.specs.declared.event.Event.{Event}
 use Rattle.ls_machine.specs.declared.event.Event.TheVariants.{Asked, Sent}
 use Rattle.ls_machine.specs.declared.event.Out.{Out}
-use Rattle.ls_machine.specs.declared.state.Entry.{Entry}
-use Rattle.ls_machine.specs.declared.state.Entry.TheVariants.{Body, Failure, Outcome}
+use Rattle.ls_machine.specs.declared.state.OutboxEntry.{OutboxEntry}
+use Rattle.ls_machine.specs.declared.state.OutboxEntry.TheVariants.{Body, Failure, Outcome}
 use Rattle.ls_machine.specs.declared.state.Request.{Request}
 use Rattle.ls_machine.specs.declared.state.State.{State}
 use Rattle.ls_machine.specs.declared.state.Waiting.{Waiting}
@@ -22,8 +22,8 @@ use Rattle.ls_machine.proofs.Replays.{replay_none, replay_push}
 use Rattle.ls_desk.specs.Stands.{IsOutFor, out_of, ticket_of_out}
 use Rattle.ls_history.specs.declared.history_entry.HistoryEntry.{HistoryEntry}
 use Rattle.ls_history.specs.declared.history_entry.HistoryEntry.TheVariants.{Began, Heard, Left, Stopped, Worked}
-use Rattle.ls_history.specs.History.{IsLegalFrom}
-use Rattle.ls_history.specs.Places.{Place, beginning, entered, happens}
+use Rattle.ls_history.specs.History.{IsLegalHistoryFrom}
+use Rattle.ls_history.specs.Places.{Place, beginning, place_behind, happens}
 use Rattle.ls_history.specs.Told.{events_of, outs_of, with_event}
 use Rattle.ls_threads.specs.Laws.{IsReplyTo}
 
@@ -82,7 +82,7 @@ run_to id links w done out is made = subst (IsReplyTo id) (sym (is ∙ ap (λ r.
 behind : (pre rest whole before later : List Event) (e : Event) → pre ++ rest ≡ whole → pre ≡ before ++ e ∷ later → whole ≡ before ++ e ∷ (later ++ rest)
 behind pre rest whole before later e all is = sym all ∙ (ap (λ l. l ++ rest) is ∙ append_assoc before (e ∷ later) rest)
 
-out_to : (most : ℕ) (pre rest whole : List Event) (id : Id) (t : ℕ) (x : Entry) (out : Out)
+out_to : (most : ℕ) (pre rest whole : List Event) (id : Id) (t : ℕ) (x : OutboxEntry) (out : Out)
     → Known most whole id t → pre ++ rest ≡ whole → WasEntryCurrent pre x → IsOutFor x out → To id t out
 unfolding IsOutFor
 out_to most pre rest whole id t (Body body) out known all was right = λ e.
@@ -104,7 +104,7 @@ out_to most pre rest whole id t (Outcome w) out known all was right = λ e.
     let made = subst Q it was.made_by in
     run_to id a.links w right.0 out right.1 made.0
 
-first_current : (journal : List Event) (unsent : List Entry) (e : Entry) (es : List Entry) → unsent ≡ e ∷ es → WereEntriesCurrent journal unsent → WasEntryCurrent journal e
+first_current : (journal : List Event) (unsent : List OutboxEntry) (e : OutboxEntry) (es : List OutboxEntry) → unsent ≡ e ∷ es → WereEntriesCurrent journal unsent → WasEntryCurrent journal e
 unfolding WereEntriesCurrent
 first_current journal unsent e es is were = let now = subst (WereEntriesCurrent journal) is were in now.0
 
@@ -114,11 +114,11 @@ first_current journal unsent e es is were = let now = subst (WereEntriesCurrent 
 abbrev Leads : List Event → List Event → Place → Type 0
 Leads rest whole p = (pre : List Event) × (replay pre ≡ p.state) × (pre ++ rest ≡ whole)
 
-goes_on : (rest whole : List Event) (p : Place) (o : Option Event) → Leads (with_event o rest) whole p → Leads rest whole (entered p o)
+goes_on : (rest whole : List Event) (p : Place) (o : Option Event) → Leads (with_event o rest) whole p → Leads rest whole (place_behind p o)
 goes_on rest whole p None l = l
 goes_on rest whole p (Some e) l = (l.0 ++ e ∷ [], replay_push start l.0 e ∙ ap (λ s. step s e) l.1, append_assoc l.0 (e ∷ []) rest ∙ l.2)
 
-outs_to : (most : ℕ) (whole : List Event) (id : Id) (t : ℕ) (p : Place) (log : List HistoryEntry) → Known most whole id t → Leads (events_of log) whole p → IsLegalFrom p log
+outs_to : (most : ℕ) (whole : List Event) (id : Id) (t : ℕ) (p : Place) (log : List HistoryEntry) → Known most whole id t → Leads (events_of log) whole p → IsLegalHistoryFrom p log
     → AllByRecursion (To id t) (outs_of log)
 outs_to most whole id t p [] known l legal = tt
 outs_to most whole id t p (Began limit ∷ log) known l legal = outs_to most whole id t (happens p (Began limit)) log known l legal.1
@@ -139,7 +139,7 @@ outs_to most whole id t p (Worked event ∷ log) known l legal =
 
 -- the replies of a history with the ticket of a request that stands among its events
 pub replies_to : (most : ℕ) (log : List HistoryEntry) (before later : List Event) (id : Id) (uri : List ℕ) (question : Ask) (links : Bool) (t : ℕ) → IsLegal most (events_of log)
-    → IsLegalFrom beginning log → events_of log ≡ before ++ Asked id uri question links t ∷ later → AllByRecursion (λ out. ticket_of_out out ≡ t → IsReplyTo id out) (outs_of log)
+    → IsLegalHistoryFrom beginning log → events_of log ≡ before ++ Asked id uri question links t ∷ later → AllByRecursion (λ out. ticket_of_out out ≡ t → IsReplyTo id out) (outs_of log)
 replies_to most log before later id uri question links t legal happened among =
     let a = asks most (events_of log) before later id uri question links t legal among in
     let known : Known most (events_of log) id t = record { legal = legal; asks = a; low = subst (λ n. 1 ≤ n) a.is (low_start a.before) } in

@@ -3,7 +3,7 @@ use Rattle.std.proofs.Common.{◌≡◌, ◌∙◌, Bool, true, false, not, IfOk
 use Rattle.ls_session.specs.declared.turn.Status.{Status}
 use Rattle.ls_session.specs.declared.turn.Status.TheVariants.{Full}
 use Rattle.ls_devices.specs.declared.fault.ServeFault.{ServeFault}
-use Rattle.ls_threads.specs.Ends.{has_failed, has_met_full_session, has_strayed, is_ended, is_read, lacked_memory, result_of, readers_status}
+use Rattle.ls_threads.specs.Ends.{has_failed, has_met_full_session, has_strayed, has_ended_itself, is_read, lacked_memory, result_of, readers_status}
 use Rattle.ls_threads.specs.declared.ending.Early.TheVariants as early
 use Rattle.ls_devices.specs.declared.reading.ReaderEnd.{ReaderEnd}
 use Rattle.ls_threads.specs.declared.ending.Early.{Early}
@@ -85,7 +85,7 @@ all_is_written h Failed k settled s e = let shown = ok_shows h Failed k settled 
 all_is_written h Memory k settled s e = let shown = ok_shows h Memory k settled s e in true_false (sym (lacks h k) ∙ shown.not_lacked)
 
 -- where the reader ended by itself
-pub ended_is : (h : ReaderEnd Early) → is_ended h ≡ true → h ≡ reader.Ended (readers_status h)
+pub ended_is : (h : ReaderEnd Early) → has_ended_itself h ≡ true → h ≡ reader.Ended (readers_status h)
 ended_is (reader.Ended s) e = refl
 ended_is reader.Failed e = false_true e
 ended_is (reader.Broken x) e = false_true e

@@ -1,7 +1,7 @@
 -- Runs that ended well.
 use Rattle.std.proofs.Common.{◌≡◌, ◌∙◌, List, [], ◌∷◌, Some, refl, sym, ap, subst}
 use Rattle.ls_machine.specs.declared.event.Out.{Out}
-use Rattle.ls_machine.specs.declared.state.Entry.{Entry}
+use Rattle.ls_machine.specs.declared.state.OutboxEntry.{OutboxEntry}
 use Rattle.ls_desk.specs.Stands.{AreOutsFor, state_of}
 use Rattle.ls_history.specs.Laws.{IsJournal}
 use Rattle.ls_history.specs.Places.{Place}
@@ -16,7 +16,7 @@ runs_journals journal events status input left old new served =
     let limit = sym (ap (λ (p : Place). p.limit) led) ∙ ap Some served.limits.events_is in
     subst (IsJournal events served.log) (sym led) (histories_journals events served.log served.history.legal limit)
 
-none_unsent : (es : List Entry) (outs : List Out) → outs ≡ [] → AreOutsFor es outs → es ≡ []
+none_unsent : (es : List OutboxEntry) (outs : List Out) → outs ≡ [] → AreOutsFor es outs → es ≡ []
 unfolding AreOutsFor
 none_unsent [] outs q h = refl
 none_unsent (e ∷ es) [] q h = absurd h

@@ -5,7 +5,7 @@ use Rattle.std.proofs.lemmas.Bool.Decides.{nat_tests}
 use Rattle.ls_session.specs.declared.turn.Status.{Status}
 use Rattle.ls_session.specs.declared.turn.Status.TheVariants.{Full}
 use Rattle.ls_desk.specs.Stands.{Seen, state_of, used}
-use Rattle.ls_threads.specs.Ends.{has_met_full_session, is_ended, is_read, readers_status}
+use Rattle.ls_threads.specs.Ends.{has_met_full_session, has_ended_itself, is_read, readers_status}
 use Rattle.ls_threads.specs.Settled.{IsSettled, is_done, is_nearly_full, is_settled}
 use Rattle.ls_devices.specs.declared.reading.ReaderEnd.{ReaderEnd}
 use Rattle.ls_threads.specs.declared.ending.Early.{Early}
@@ -32,16 +32,16 @@ less a b e = grind (arith, nat_tests)
 full_settled : (events : ℕ) (h : ReaderEnd Early) (k : Worked) (status : Status) (before after : Seen) → has_met_full_session h k ≡ true → is_settled events h k before ≡ true → is_read h ≡ false
     → status ≡ Full → after.outbox ≡ [] → used after ≡ used before → IsSettled events status h after
 full_settled events h k status before after full settled read is_full none same =
-    let P : Bool → Type 0 = λ b. (if b then is_nearly_full events before else (is_ended h && is_done before)) ≡ true in
+    let P : Bool → Type 0 = λ b. (if b then is_nearly_full events before else (has_ended_itself h && is_done before)) ≡ true in
     let near : nat_lt events (used before + 1025) ≡ true = subst P full settled in
     record { read = read; sent = none; done = inr (is_full, subst (λ n. events < n + 1025) (sym same) (less events (used before + 1025) near)) }
 
 -- without, the reader ended by itself, and all is done
 all_done : (events : ℕ) (h : ReaderEnd Early) (k : Worked) (desk : Seen) → has_met_full_session h k ≡ false → is_settled events h k desk ≡ true
-    → (is_ended h ≡ true) × ((state_of desk).waiting ≡ []) × (desk.outbox ≡ [])
+    → (has_ended_itself h ≡ true) × ((state_of desk).waiting ≡ []) × (desk.outbox ≡ [])
 all_done events h k desk full settled =
-    let P : Bool → Type 0 = λ b. (if b then is_nearly_full events desk else (is_ended h && is_done desk)) ≡ true in
-    let two = both (is_ended h) (is_done desk) (subst P full settled) in
+    let P : Bool → Type 0 = λ b. (if b then is_nearly_full events desk else (has_ended_itself h && is_done desk)) ≡ true in
+    let two = both (has_ended_itself h) (is_done desk) (subst P full settled) in
     let done = both (length (state_of desk).waiting == 0) (length desk.outbox == 0) two.1 in
     (two.0, is_none (state_of desk).waiting done.0, is_none desk.outbox done.1)
 

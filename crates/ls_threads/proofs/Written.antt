@@ -26,7 +26,7 @@ use Rattle.ls_workers.specs.Jobs.{HasLimits}
 use Rattle.ls_workers.specs.Seats.{HasHistory, HaveHistory}
 use Rattle.ls_threads.specs.Ends.{has_failed}
 use Rattle.ls_threads.specs.Input.{HasHeard}
-use Rattle.ls_threads.specs.Reading.{Replies}
+use Rattle.ls_threads.specs.Reading.{HeardReplies}
 use Rattle.ls_threads.specs.Served.{IsServed}
 use Rattle.ls_threads.specs.declared.ending.Early.TheVariants.{Memory as LacksMemory}
 use Rattle.ls_devices.specs.declared.reading.ReaderEnd.{ReaderEnd}
@@ -37,7 +37,7 @@ use Rattle.ls_threads.specs.Writing.{HasTold, HasWritten, Leave, SaysTheRest, Wr
 use Rattle.ls_threads.specs.declared.ending.Wrote.{Wrote}
 use Rattle.ls_threads.specs.declared.ending.Wrote.TheVariants.{All, Failed, Memory}
 use Rattle.ls_devices.proofs.Listening.{refused_at_once}
-use Rattle.ls_threads.specs.Reading.{BreaksOff, Hears}
+use Rattle.ls_threads.specs.Reading.{BreaksOffAt, Hears}
 
 pub frame_is : (out : Out) (body : List ℕ) → body_of out ≡ Some body → frame_for out ≡ frame_of body
 frame_is out body e = ap (λ o. option_map_or frame_of o []) e
@@ -218,7 +218,7 @@ told_more end d e f a b c out h sends whole front none = record {
 -- ---- the run
 
 -- The writer wrote all that it was given, and what the desk of a full session still had to say was written too.
-pub is_served : (journal events : ℕ) (status : Status) (input left a b c : Option (List ℕ)) (heard : ReaderEnd Early) (replies : Replies) (outs : List Out) (held holds : Bool) (wrote : Wrote) (full : Bool) (d : Seen)
+pub is_served : (journal events : ℕ) (status : Status) (input left a b c : Option (List ℕ)) (heard : ReaderEnd Early) (replies : HeardReplies) (outs : List Out) (held holds : Bool) (wrote : Wrote) (full : Bool) (d : Seen)
     → HasHistory replies outs d → IsSound d → HasLimits journal events d → HasWritten a b held holds wrote outs → wrote ≡ All → (rest : SaysTheRest full All d b c)
     → IsSettled events status heard rest.after → HasHeard input left BeforeInitialize [] heard replies → IsServed journal events status input left a c
 is_served journal events status input left a b c heard replies outs held holds wrote full d history sound limits written all rest settled hears =
@@ -246,12 +246,12 @@ none_written failed input a b w = record {
   log = [];
   legal = tt;
   end = Broken LacksMemory;
-  heard = (BeforeInitialize, refused_at_once Hears (λ body at early next. BreaksOff body at next) (λ early. early ≡ LacksMemory) input (BeforeInitialize, []) LacksMemory refl);
+  heard = (BeforeInitialize, refused_at_once Hears (λ body at early next. BreaksOffAt body at next) (λ early. early ≡ LacksMemory) input (BeforeInitialize, []) LacksMemory refl);
   front = all_front failed a b [] w;
 }
 
 -- the seats have one history, and the writer wrote what it was given
-pub seats_written : (failed : Bool) (end : ReaderEnd Early) (input left a b : Option (List ℕ)) (replies : Replies) (outs : List Out) → HaveHistory replies outs
+pub seats_written : (failed : Bool) (end : ReaderEnd Early) (input left a b : Option (List ℕ)) (replies : HeardReplies) (outs : List Out) → HaveHistory replies outs
     → HasHeard input left BeforeInitialize [] end replies → WritesFront failed a b outs → WritesFrames failed input left a b
 seats_written failed end input left a b replies outs history heard front = record {
   log = history.0;
@@ -262,7 +262,7 @@ seats_written failed end input left a b replies outs history heard front = recor
 }
 
 -- the rest came behind what the writer had written
-rest_behind : (end : Wrote) (full : Bool) (d : Seen) (heard : ReaderEnd Early) (input left a b c : Option (List ℕ)) (replies : Replies) (outs : List Out) → HasHistory replies outs d
+rest_behind : (end : Wrote) (full : Bool) (d : Seen) (heard : ReaderEnd Early) (input left a b c : Option (List ℕ)) (replies : HeardReplies) (outs : List Out) → HasHistory replies outs d
     → HasHeard input left BeforeInitialize [] heard replies → Appends a b (frames_for outs) → SaysTheRest full end d b c → WritesFrames (has_failed end) input left a c
 rest_behind end full d heard input left a b c replies outs history hears written rest =
     let told = rest.told in
@@ -275,7 +275,7 @@ rest_behind end full d heard input left a b c replies outs history hears written
           (front_behind (has_failed end) a b c outs told.outs written told.front);
     }
 
-writes_nothing_more : (before after : Wrote) (d : Seen) (heard : ReaderEnd Early) (input left a b c : Option (List ℕ)) (replies : Replies) (outs : List Out) → HasHistory replies outs d
+writes_nothing_more : (before after : Wrote) (d : Seen) (heard : ReaderEnd Early) (input left a b c : Option (List ℕ)) (replies : HeardReplies) (outs : List Out) → HasHistory replies outs d
     → HasHeard input left BeforeInitialize [] heard replies → WritesFront (has_failed before) a b outs → (after ≡ before) × Appends b c [] → WritesFrames (has_failed after) input left a c
 writes_nothing_more before after d heard input left a b c replies outs history hears front still =
     subst (λ (end : Wrote). WritesFrames (has_failed end) input left a c) (sym still.0)
@@ -288,7 +288,7 @@ memory_is_not_all : Memory ≢ All
 memory_is_not_all e = absurd (cc (e))
 
 -- what the writer wrote, and what was written behind it
-pub all_frames : (before after : Wrote) (full : Bool) (d : Seen) (heard : ReaderEnd Early) (input left a b c : Option (List ℕ)) (replies : Replies) (outs : List Out) (held holds : Bool) → HasHistory replies outs d
+pub all_frames : (before after : Wrote) (full : Bool) (d : Seen) (heard : ReaderEnd Early) (input left a b c : Option (List ℕ)) (replies : HeardReplies) (outs : List Out) (held holds : Bool) → HasHistory replies outs d
     → HasHeard input left BeforeInitialize [] heard replies → HasWritten a b held holds before outs → (before ≡ All → SaysTheRest full after d b c) → (before ≢ All → (after ≡ before) × Appends b c [])
     → WritesFrames (has_failed after) input left a c
 all_frames All after full d heard input left a b c replies outs held holds history hears written rest still =

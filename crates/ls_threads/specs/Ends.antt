@@ -44,9 +44,9 @@ has_met_full_session h worked.Full = true
 has_met_full_session h k = false
 
 -- The reader ended by itself: neither the source nor another thread broke it off.
-abbrev pub is_ended : ReaderEnd Early → Bool
-is_ended (reader.Ended s) = true
-is_ended _ = false
+abbrev pub has_ended_itself : ReaderEnd Early → Bool
+has_ended_itself (reader.Ended s) = true
+has_ended_itself _ = false
 
 -- the reader's own status, unclean where it broke off
 abbrev pub readers_status : ReaderEnd Early → Status

@@ -10,14 +10,14 @@ use Rattle.ls_machine.specs.declared.event.Out.TheVariants.{Said, Replied, Faile
 use Rattle.ls_session.specs.declared.turn.Status.{Status}
 use Rattle.ls_desk.specs.Stands.{state_of, ticket_of_out}
 use Rattle.ls_history.specs.Laws.{IsJournal}
-use Rattle.ls_history.specs.Places.{place_of}
+use Rattle.ls_history.specs.Places.{place_of_desk}
 use Rattle.ls_history.specs.Told.{heard_of, outs_of}
-use Rattle.ls_threads.specs.Reading.{Replies}
+use Rattle.ls_threads.specs.Reading.{HeardReplies}
 use Rattle.ls_threads.specs.Served.{IsServed}
 
 -- This holds of each request that was accepted, by the ticket that it got and by its id.
-abbrev pub EachRequest : (ℕ → Id → Type 0) → Replies → Type 0
-EachRequest P heard = (before later : Replies) (id : Id) (uri : List ℕ) (question : Ask) (links : Bool) (ticket : ℕ)
+abbrev pub EachRequest : (ℕ → Id → Type 0) → HeardReplies → Type 0
+EachRequest P heard = (before later : HeardReplies) (id : Id) (uri : List ℕ) (question : Ask) (links : Bool) (ticket : ℕ)
     → heard ≡ before ++ (Request id uri question links, Ok (Ticket ticket)) ∷ later → P ticket id
 
 -- The reply is one to the request with this id: its answer, or its error.
@@ -36,7 +36,7 @@ pub record IsAnsweredOnce (outs : List Out) (ticket : ℕ) (id : Id) : Type 0 wh
 -- the state and to the counts of the run's desk.
 abbrev pub RunsAreJournals : Type 0
 RunsAreJournals = (journal events : ℕ) (status : Status) (input left old new : Option (List ℕ)) (served : IsServed journal events status input left old new)
-    → IsJournal events served.log (place_of served.desk)
+    → IsJournal events served.log (place_of_desk served.desk)
 
 -- Where no job waits in the end, as where the status isn't a full session's, each request of the client that was accepted is answered once
 -- by the replies of the run's history, which are those whose frames were written.

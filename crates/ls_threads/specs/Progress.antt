@@ -3,9 +3,9 @@ use Rattle.std.specs.Prelude.{◌++◌, ℕ, List, Option}
 use mathlib.Core.List.{IsPrefix}
 use Rattle.ls_session.specs.declared.turn.Status.{Status}
 use Rattle.ls_history.specs.declared.history_entry.HistoryEntry.{HistoryEntry}
-use Rattle.ls_history.specs.History.{IsLegal, replay}
+use Rattle.ls_history.specs.History.{IsLegalHistory, replay_entries}
 use Rattle.ls_history.specs.Places.{beginning}
-use Rattle.ls_history.specs.Progress.{AreSteps, CanEnd, HasRoom}
+use Rattle.ls_history.specs.Progress.{AreSteps, CanEnd, HasRoomForSteps}
 use Rattle.ls_history.specs.Told.{heard_of, outs_of}
 use Rattle.ls_threads.specs.Served.{IsServed}
 use Rattle.ls_threads.specs.Laws.{EachRequest, IsAnsweredOnce}
@@ -20,4 +20,4 @@ pub record CanAnswer (log made : List HistoryEntry) : Type 0 where
 -- event for each step that is left.
 abbrev pub RunsCanEnd : Type 0
 RunsCanEnd = (journal events : ℕ) (status : Status) (input left old new : Option (List ℕ)) (served : IsServed journal events status input left old new)
-    → (front made : List HistoryEntry) → IsPrefix front served.log → IsLegal (front ++ made) → AreSteps made → HasRoom (replay beginning front) → CanAnswer front made
+    → (front made : List HistoryEntry) → IsPrefix front served.log → IsLegalHistory (front ++ made) → AreSteps made → HasRoomForSteps (replay_entries beginning front) → CanAnswer front made

@@ -3,7 +3,7 @@ use Rattle.std.specs.Prelude.{◌≡◌, ◌<◌, ◌+◌, ◌⊎◌, ◌==◌, 
 use Rattle.ls_session.specs.declared.turn.Status.{Status}
 use Rattle.ls_session.specs.declared.turn.Status.TheVariants.{Full}
 use Rattle.ls_desk.specs.Stands.{Seen, state_of, used}
-use Rattle.ls_threads.specs.Ends.{has_met_full_session, is_ended, is_read}
+use Rattle.ls_threads.specs.Ends.{has_met_full_session, has_ended_itself, is_read}
 use Rattle.ls_devices.specs.declared.reading.ReaderEnd.{ReaderEnd}
 use Rattle.ls_threads.specs.declared.ending.Early.{Early}
 use Rattle.ls_devices.specs.declared.reading.ReaderEnd.TheVariants.{Ended}
@@ -21,7 +21,7 @@ is_done desk = (length (state_of desk).waiting == 0) && (length desk.outbox == 0
 
 -- The desk is as these ends leave it: nearly full where one of them met a full session; else the reader ended by itself, and all is done.
 abbrev pub is_settled : ℕ → ReaderEnd Early → Worked → Seen → Bool
-is_settled events h k desk = if has_met_full_session h k then is_nearly_full events desk else (is_ended h && is_done desk)
+is_settled events h k desk = if has_met_full_session h k then is_nearly_full events desk else (has_ended_itself h && is_done desk)
 
 -- With a status that is answered no read has failed, and nothing is unsent. The status is the reader's, and no job waits; or it says that
 -- the session is full, and the desk is as near its limit as that.

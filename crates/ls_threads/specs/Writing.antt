@@ -8,7 +8,7 @@ use Rattle.ls_machine.specs.declared.event.Out.{Out}
 use Rattle.ls_session.specs.Bodies.{body_of}
 use Rattle.ls_session.specs.declared.session.Stage.TheVariants.{BeforeInitialize}
 use Rattle.ls_desk.specs.Stands.{Seen, Sends}
-use Rattle.ls_history.specs.History.{IsLegal}
+use Rattle.ls_history.specs.History.{IsLegalHistory}
 use Rattle.ls_history.specs.Told.{heard_of, outs_of}
 use Rattle.ls_history.specs.declared.history_entry.HistoryEntry.{HistoryEntry}
 use Rattle.ls_threads.specs.Ends.{has_failed}
@@ -44,7 +44,7 @@ pub record WritesFront (failed : Bool) (old new : Option (List ℕ)) (outs : Lis
 -- failed.
 pub record WritesFrames (failed : Bool) (input left old new : Option (List ℕ)) : Type 0 where
   pub log : List HistoryEntry
-  pub legal : IsLegal log
+  pub legal : IsLegalHistory log
   pub end : ReaderEnd Early
   pub heard : HasHeard input left BeforeInitialize [] end (heard_of log)
   pub front : WritesFront failed old new (outs_of log)

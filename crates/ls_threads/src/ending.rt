@@ -1,6 +1,6 @@
 //! How the threads end, and what that makes of the run.
 ghost use Rattle.std.specs.Prelude.{◌≡◌};
-ghost use Rattle.ls_threads.specs.Ends.{worked_by, has_met_full_session, is_ended, result_of, worse};
+ghost use Rattle.ls_threads.specs.Ends.{worked_by, has_met_full_session, has_ended_itself, result_of, worse};
 
 use ls_desk::DeskFault;
 use ls_devices::{ReaderEnd, ServeFault};
@@ -111,7 +111,7 @@ pub fn has_met_full_session(heard: ReaderEnd<Early>, worked: Worked) -> bool
 
 /// Whether the reader ended by itself: neither the source nor another thread broke it off.
 pub fn is_ended(heard: ReaderEnd<Early>) -> bool
-    ensures { result ≡ is_ended heard }
+    ensures { result ≡ has_ended_itself heard }
 {
     match heard {
         ReaderEnd::Ended(_) => true,

@@ -5,7 +5,7 @@ ghost use Rattle.ls_machine.specs.Client.{IsAllowed};
 ghost use Rattle.ls_history.specs.Told.{heard_of};
 ghost use Rattle.ls_session.specs.Bodies.{refusal_to};
 ghost use Rattle.ls_threads.specs.Input.{HasHeard};
-ghost use Rattle.ls_threads.specs.Reading.{BreaksOff, Hears, IsLost, IsMet, IsTold, IsUntold};
+ghost use Rattle.ls_threads.specs.Reading.{BreaksOffAt, Hears, IsLost, IsMet, IsTold, IsUntold};
 
 use crate::ending::Early;
 use ls_desk::DeskFault;
@@ -34,7 +34,7 @@ impl<C: Crew, R: Wait> Listener for Reader<'_, C, R> {
 
     ghost hears = { λ body reader status after. Hears body (reader.session, heard_of reader.seat.front) status (after.session, heard_of after.seat.front) };
 
-    ghost breaks = { λ body reader _ after. BreaksOff body (reader.session, heard_of reader.seat.front) (after.session, heard_of after.seat.front) };
+    ghost breaks = { λ body reader _ after. BreaksOffAt body (reader.session, heard_of reader.seat.front) (after.session, heard_of after.seat.front) };
 
     /// Hears a message by its body, and answers the status of an exit. Once the board has ended by `Now` none is heard.
     ///

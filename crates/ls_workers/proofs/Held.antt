@@ -6,7 +6,7 @@ use Rattle.ls_answers.specs.Told.{Told}
 use Rattle.ls_machine.specs.Counts.{count_one, total}
 use Rattle.ls_machine.specs.Journal as journal
 use Rattle.ls_machine.specs.Journal.{replay_from}
-use Rattle.ls_machine.specs.Laws.{AreInOrder}
+use Rattle.ls_machine.specs.Laws.{WereCurrentInOrder}
 use Rattle.ls_machine.specs.Machine.{is_held, step, waits, without_first_job}
 use Rattle.ls_machine.specs.declared.base.Counts.{Counts}
 use Rattle.ls_machine.specs.declared.event.DeskFault.{DeskFault}
@@ -18,7 +18,7 @@ use Rattle.ls_machine.specs.declared.state.State.{State}
 use Rattle.ls_machine.specs.declared.state.Waiting.{Waiting}
 use Rattle.ls_machine.proofs.Ordered.{ordered}
 use Rattle.ls_desk.specs.Faults.{finish_fault, or_else}
-use Rattle.ls_history.specs.History.{IsLegal, IsLegalFrom, IsRoomy, MayHappen, replay}
+use Rattle.ls_history.specs.History.{IsLegalHistory, IsLegalHistoryFrom, IsRoomy, MayHappen, replay_entries}
 use Rattle.ls_history.specs.Places.{Place, beginning, happens}
 use Rattle.ls_history.specs.Told.{events_of}
 use Rattle.ls_history.specs.declared.history_entry.HistoryEntry.{HistoryEntry}
@@ -62,8 +62,8 @@ same : (a b : ℕ) → (a == b) ≡ true → a ≡ b
 same a b e = grind (arith, nat_tests)
 
 -- nor is one that is less than those that wait
-below : (js : List Event) (low high ticket : ℕ) (ws : List Waiting) → ticket < low → AreInOrder js low ws high → find (is_held ticket) ws ≡ None
-unfolding AreInOrder
+below : (js : List Event) (low high ticket : ℕ) (ws : List Waiting) → ticket < low → WereCurrentInOrder js low ws high → find (is_held ticket) ws ≡ None
+unfolding WereCurrentInOrder
 below js low high ticket [] less rise = refl
 below js low high ticket (w ∷ ws) less rise =
     let here : low ≤ w.ticket = rise.0 in
@@ -76,8 +76,8 @@ gone_by true ticket w ws is behind rest = behind is
 gone_by false ticket w ws is behind rest = none_before (is_held ticket w) w (find (is_held ticket) (without_first_job (is_held ticket) ws)) is rest
 
 -- the tickets rise, so where the first job with a ticket goes no other has it
-gone : (js : List Event) (low high ticket : ℕ) (ws : List Waiting) → AreInOrder js low ws high → find (is_held ticket) (without_first_job (is_held ticket) ws) ≡ None
-unfolding AreInOrder
+gone : (js : List Event) (low high ticket : ℕ) (ws : List Waiting) → WereCurrentInOrder js low ws high → find (is_held ticket) (without_first_job (is_held ticket) ws) ≡ None
+unfolding WereCurrentInOrder
 gone js low high ticket [] rise = refl
 gone js low high ticket (w ∷ ws) rise =
     gone_by (is_held ticket w) ticket w ws refl
@@ -93,20 +93,20 @@ limit_is (Some most) n some within = (most, refl)
 one_more : (c : Counts) (ticket : ℕ) (failed : Bool) → 0 < total (count_one c (Finished ticket failed))
 one_more c ticket failed = omega arith
 
-last_may : (p : Place) (xs : List HistoryEntry) (h : HistoryEntry) → IsLegalFrom p (xs ++ h ∷ []) → MayHappen (replay p xs) h
+last_may : (p : Place) (xs : List HistoryEntry) (h : HistoryEntry) → IsLegalHistoryFrom p (xs ++ h ∷ []) → MayHappen (replay_entries p xs) h
 last_may p [] h legal = legal.0
 last_may p (x ∷ xs) h legal = last_may (happens p x) xs h legal.1
 
-finished_from : (p : Place) (js : List Event) (high ticket : ℕ) (failed : Bool) → AreInOrder js 1 p.state.waiting high → find (is_held ticket) (happens p (Worked (Finished ticket failed))).state.waiting ≡ None
+finished_from : (p : Place) (js : List Event) (high ticket : ℕ) (failed : Bool) → WereCurrentInOrder js 1 p.state.waiting high → find (is_held ticket) (happens p (Worked (Finished ticket failed))).state.waiting ≡ None
 unfolding step
 finished_from p js high ticket failed rise = gone js 1 high ticket p.state.waiting rise
 
 -- a job that has run is held no more
-finished_gone : (ticket : ℕ) (failed : Bool) (before new : List HistoryEntry) → new ≡ before ++ Worked (Finished ticket failed) ∷ [] → IsLegal new → IsNotHeld ticket new
+finished_gone : (ticket : ℕ) (failed : Bool) (before new : List HistoryEntry) → new ≡ before ++ Worked (Finished ticket failed) ∷ [] → IsLegalHistory new → IsNotHeld ticket new
 finished_gone ticket failed before new is legal =
     let h = Worked (Finished ticket failed) in
     let p = led_by before in
-    let all : IsLegal (before ++ h ∷ []) = subst IsLegal is legal in
+    let all : IsLegalHistory (before ++ h ∷ []) = subst IsLegalHistory is legal in
     let may = last_may beginning before h all in
     let roomy : IsRoomy (happens p h) = may.1 in
     let some : 0 < total (count_one p.counts (Finished ticket failed)) = one_more p.counts ticket failed in
@@ -114,11 +114,11 @@ finished_gone ticket failed before new is legal =
     let run = histories_journals limit.0 before (legal_before beginning before (h ∷ []) all) limit.1 in
     let js = events_of before in
     let rise = (ordered limit.0 js run.legal).waiting in
-    let Rises : State → Type 0 = λ s. AreInOrder js 1 s.waiting (journal.replay js).next_ticket in
+    let Rises : State → Type 0 = λ s. WereCurrentInOrder js 1 s.waiting (journal.replay js).next_ticket in
     let led : led_by new ≡ happens p h = ap led_by is ∙ replay_more beginning before (h ∷ []) in
     subst (λ (q : Place). find (is_held ticket) q.state.waiting ≡ None) (sym led) (finished_from p js (journal.replay js).next_ticket ticket failed (subst Rises run.state_is rise))
 
-pub finished_not_held : (done : Told) (kept : Kept) (old new : List HistoryEntry) → IsFinishedAt done kept old new → IsLegal new → IsNotHeld done.ticket new
+pub finished_not_held : (done : Told) (kept : Kept) (old new : List HistoryEntry) → IsFinishedAt done kept old new → IsLegalHistory new → IsNotHeld done.ticket new
 finished_not_held done kept old new finished legal = finished_gone done.ticket (is_none done.answer) finished.before new finished.ends legal
 
 -- ---- where the desk doesn't know the ticket

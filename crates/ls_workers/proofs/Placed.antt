@@ -5,7 +5,7 @@ use mathlib.Core.List.{IsPrefix}
 use Rattle.std.specs.Prelude.{IfNone, is_none}
 use Rattle.ls_answers.specs.Told.{Told}
 use Rattle.ls_answers.specs.declared.job.Job.{Job}
-use Rattle.ls_machine.specs.Counts.{counted}
+use Rattle.ls_machine.specs.Counts.{counted_with}
 use Rattle.ls_machine.specs.Journal.{replay_from}
 use Rattle.ls_machine.specs.declared.event.DeskFault.{DeskFault}
 use Rattle.ls_machine.specs.declared.event.Event.TheVariants.{Finished, Returned, Took}
@@ -19,29 +19,29 @@ use Rattle.ls_history.specs.declared.history_entry.Stop.{Stop}
 use Rattle.ls_history.specs.declared.history_entry.Stop.TheVariants.{Drain, Now}
 use Rattle.ls_history.specs.Ends.{is_over, stop_of}
 use Rattle.ls_history.specs.History.{HasLedTo}
-use Rattle.ls_history.specs.Places.{Place, desk_at, place_of}
+use Rattle.ls_history.specs.Places.{Place, desk_at, place_of_desk}
 use Rattle.ls_workers.specs.Ends.{has_news}
 use Rattle.ls_workers.specs.Jobs.{HasEnded, HasEntered, HasNothingMore, IsFinishedAt, IsFirstJob, IsRefusedAt, IsReturnedAt, IsTakenAt, led_by}
 
 -- what is against a call is so by where the desk stands
-take_same : (d : Seen) → take_fault (desk_at (place_of d)) ≡ take_fault d
-unfolding replay_from counted
+take_same : (d : Seen) → take_fault (desk_at (place_of_desk d)) ≡ take_fault d
+unfolding replay_from counted_with
 take_same d = refl
 
-return_same : (ticket : ℕ) (d : Seen) → give_back_fault (desk_at (place_of d)) ticket ≡ give_back_fault d ticket
-unfolding replay_from counted
+return_same : (ticket : ℕ) (d : Seen) → give_back_fault (desk_at (place_of_desk d)) ticket ≡ give_back_fault d ticket
+unfolding replay_from counted_with
 return_same ticket d = refl
 
-run_same : (done : Told) (d : Seen) → finish_fault (desk_at (place_of d)) done ≡ finish_fault d done
-unfolding replay_from counted
+run_same : (done : Told) (d : Seen) → finish_fault (desk_at (place_of_desk d)) done ≡ finish_fault d done
+unfolding replay_from counted_with
 run_same done d = refl
 
-kept_same : (done : Told) (d : Seen) → kept_of (desk_at (place_of d)) done ≡ kept_of d done
-unfolding replay_from counted
+kept_same : (done : Told) (d : Seen) → kept_of (desk_at (place_of_desk d)) done ≡ kept_of d done
+unfolding replay_from counted_with
 kept_same done d = refl
 
 -- a call through the front of a seat has come to the history
-entered : (h : HistoryEntry) (Holds : Place → Type 0) (old log new : List HistoryEntry) (d : Seen) → HasLedTo d log → IsPrefix old log → new ≡ log ++ h ∷ [] → Holds (place_of d) → HasEntered h Holds old new
+entered : (h : HistoryEntry) (Holds : Place → Type 0) (old log new : List HistoryEntry) (d : Seen) → HasLedTo d log → IsPrefix old log → new ≡ log ++ h ∷ [] → Holds (place_of_desk d) → HasEntered h Holds old new
 entered h Holds old log new d led begins ends holds = record { before = log; begins = begins; ends = ends; holds = subst Holds led holds }
 
 pub taken_at : (worker : ℕ) (old log new : List HistoryEntry) (d after : Seen) (o : Option Job) (job : Job) → o ≡ Some job → HasLedTo d log → IsPrefix old log → new ≡ log ++ Worked (Took worker) ∷ []
@@ -63,7 +63,7 @@ finished_at done kept old log new d after led begins ends accepts is =
     (run_same done d ∙ accepts.none, is ∙ sym (kept_same done d))
 
 -- and so has a refusal its cause there
-refused_at : (first : Seen → Option DeskFault) (fault : DeskFault) (log : List HistoryEntry) (d after : Seen) → first (desk_at (place_of d)) ≡ first d → HasLedTo d log → Refuses (first d) d after fault
+refused_at : (first : Seen → Option DeskFault) (fault : DeskFault) (log : List HistoryEntry) (d after : Seen) → first (desk_at (place_of_desk d)) ≡ first d → HasLedTo d log → Refuses (first d) d after fault
     → IsRefusedAt first fault log
 refused_at first fault log d after same led refuses =
     subst (λ (p : Place). IsFirstCause (first (desk_at p)) fault) led (subst (λ (o : Option DeskFault). IsFirstCause o fault) (sym same) refuses.cause)

@@ -7,7 +7,7 @@ use Rattle.ls_machine.specs.Same.{is_for}
 use Rattle.ls_machine.specs.declared.event.DeskFault.{DeskFault}
 use Rattle.ls_machine.specs.declared.event.DeskFault.TheVariants.{UnknownTicket, OtherText, SessionFull}
 use Rattle.ls_desk.specs.Stands.{Seen, state_of}
-use Rattle.ls_desk.specs.Faults.{Refuses, or_else, is_full, finish_fault}
+use Rattle.ls_desk.specs.Faults.{Refuses, or_else, is_session_full, finish_fault}
 use Rattle.ls_workers.specs.Refusals.{may_refuse_run}
 
 some_same : (p : DeskFault → Bool) (first fault : DeskFault) → p first ≡ true → Some first ≡ Some fault → p fault ≡ true
@@ -27,5 +27,5 @@ run_refused d new done fault refused = elim refused.cause [
   | inr memory ↦ subst (λ f. may_refuse_run f ≡ true) (sym memory.1) refl
   | inl first ↦ one_of may_refuse_run (is_none (find (is_held done.ticket) (state_of d).waiting)) UnknownTicket _ fault refl
       (one_of may_refuse_run (not (is_for (find (is_held done.ticket) (state_of d).waiting) done)) OtherText _ fault refl
-      (last_of may_refuse_run (is_full d (1 + length (left_at (is_none done.answer) (find (is_held done.ticket) (state_of d).waiting)))) SessionFull fault refl)) first
+      (last_of may_refuse_run (is_session_full d (1 + length (left_at (is_none done.answer) (find (is_held done.ticket) (state_of d).waiting)))) SessionFull fault refl)) first
 ]

@@ -16,12 +16,12 @@ use Rattle.ls_history.specs.declared.history_entry.HistoryEntry.TheVariants.{Wor
 use Rattle.ls_history.specs.declared.history_entry.Stop.{Stop}
 use Rattle.ls_history.specs.declared.history_entry.Stop.TheVariants.{Drain, Now}
 use Rattle.ls_history.specs.Ends.{stop_of}
-use Rattle.ls_history.specs.History.{replay}
+use Rattle.ls_history.specs.History.{replay_entries}
 use Rattle.ls_history.specs.Places.{Place, beginning, desk_at}
 
 -- where a history has led, from the beginning on
 abbrev pub led_by : List HistoryEntry → Place
-led_by log = replay beginning log
+led_by log = replay_entries beginning log
 
 -- The history had come on from what a seat had seen of it when this entry was added, and this held of where it had led by then. The seat
 -- has seen the entry too, and nothing behind it.

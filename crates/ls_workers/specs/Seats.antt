@@ -11,7 +11,7 @@ use Rattle.ls_machine.specs.declared.event.DeskFault.{DeskFault}
 use Rattle.ls_machine.specs.declared.event.Out.{Out}
 use Rattle.ls_history.specs.declared.history_entry.HistoryEntry.{HistoryEntry}
 use Rattle.ls_history.specs.declared.history_entry.HistoryEntry.TheVariants as entry
-use Rattle.ls_history.specs.History.{HasLedTo, IsHistoryOf, IsLegal}
+use Rattle.ls_history.specs.History.{HasLedTo, IsHistoryOf, IsLegalHistory}
 use Rattle.ls_history.specs.Told.{heard_of, outs_of}
 use Rattle.ls_workers.specs.Jobs.{HasLimits}
 use Rattle.ls_workers.specs.declared.ended.Ended.{Ended}
@@ -71,7 +71,7 @@ pub record KnowsTheSame (old new : AuditLog) : Type 0 where
   pub agreed : HasAgreed new ↔ HasAgreed old
 
 -- An entry needs no memory any more, whether its event makes a checkpoint or not.
-pub record HasRoom (log : held.AuditLog) : Type 0 where
+pub record HasRoomForEntry (log : held.AuditLog) : Type 0 where
   pub list : vec_len log.list < vec_capacity log.list
   pub spare : vec_len log.spare < vec_capacity log.spare
   pub ended : vec_len log.ended < vec_capacity log.ended
@@ -112,7 +112,7 @@ HasHistory heard outs desk = (log : List HistoryEntry) × IsHistoryOf desk log �
 -- One legal history has these events of the client, each with its answer or its refusal, and these replies, and no others, wherever it has
 -- led.
 abbrev pub HaveHistory : List (ClientEvent × Result ClientAnswer DeskFault) → List Out → Type 0
-HaveHistory heard outs = (log : List HistoryEntry) × IsLegal log × (heard_of log ≡ heard) × (outs_of log ≡ outs)
+HaveHistory heard outs = (log : List HistoryEntry) × IsLegalHistory log × (heard_of log ≡ heard) × (outs_of log ≡ outs)
 
 -- Why a board isn't closed. `SeatMissing`: the seats aren't all its own. `Strayed`: they are, the desk that it carries has their counts,
 -- and a difference was found or is there in what had ended, or what the seats know isn't what its journal has now.

@@ -1,7 +1,7 @@
 //! What a client's seat lists of its events, to be compared with the journal.
 ghost use Rattle.std.specs.Prelude.{◌≡◌, ◌↔◌, ◌-◌, ◌++◌, ◌∷◌, ◌<◌, [], All, IfOk, IfNone, IfSome, OnOk, Some, length, slice_get, vec_len, vec_capacity, true, false, if◌then◌else◌};
 ghost use Rattle.ls_machine.specs.Client.{HasSmallText, client_events, filled, note_of, opens_too_large};
-ghost use Rattle.ls_workers.specs.Seats.{AreSame, HasAgreed, HasRoom, KnowsTheSame, logged_by, logged_nothing};
+ghost use Rattle.ls_workers.specs.Seats.{AreSame, HasAgreed, HasRoomForEntry, KnowsTheSame, logged_by, logged_nothing};
 
 use crate::agree::ends_with;
 use crate::ended::Ended;
@@ -65,7 +65,7 @@ impl AuditLog {
         ensures some { IfOk result (λ noted. IfSome noted (λ note. note ≡ note_of event.now)) }
         ensures none { IfOk result (λ noted. IfNone noted (opens_too_large event.now ≡ true)) }
         ensures fits { IfOk result (λ noted. IfSome noted (λ note. (opens_too_large event.now ≡ false) × HasSmallText note)) }
-        ensures room { OnOk result (HasRoom self.new) }
+        ensures room { OnOk result (HasRoomForEntry self.new) }
         ensures kept { KnowsTheSame (logged_by self.old) (logged_by self.new) }
     {
         self.compare_some();
@@ -78,7 +78,7 @@ impl AuditLog {
     /// Where an event made a checkpoint at a desk, the list begins anew, and what it had comes beside the journal that ended, to be
     /// compared. Takes no memory, and lets none go.
     fn begin_anew(&mut self, anew: bool, desk: &mut Desk)
-        requires { HasRoom self.old }
+        requires { HasRoomForEntry self.old }
         ensures list { self.new.list.items ≡ (if anew then [] else self.old.list.items) }
         ensures checkpoints { self.new.checkpoints ≡ (if anew then desk.old.base.checkpoints else self.old.checkpoints) }
         ensures strayed { self.new.strayed ≡ self.old.strayed }
@@ -102,7 +102,7 @@ impl AuditLog {
     /// entry. Where the event made a checkpoint the list begins anew with it, and what it had is compared later with the journal that
     /// ended, which the desk lets go. Takes no memory, and lets none go.
     pub(crate) fn log(&mut self, anew: bool, desk: &mut Desk, note: Event, answer: ClientAnswer)
-        requires { HasRoom self.old }
+        requires { HasRoomForEntry self.old }
         ensures list { self.new.list.items ≡ (if anew then [] else self.old.list.items) ++ filled note answer ∷ [] }
         ensures checkpoints { self.new.checkpoints ≡ (if anew then desk.old.base.checkpoints else self.old.checkpoints) }
         ensures agreed { HasAgreed (logged_by self.new) ↔ (HasAgreed (logged_by self.old) × (slice_get desk.old.journal (length desk.old.journal - 1) ≡ Some (filled note answer))

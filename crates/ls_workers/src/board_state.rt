@@ -14,7 +14,7 @@ ghost use Rattle.ls_machine.specs.Client.{HasSmallText, IsAllowed, note_of, open
 ghost use Rattle.ls_desk.specs.Faults.{take_fault, give_back_fault, finish_fault};
 ghost use Rattle.ls_workers.specs.Jobs.{HasLimits, IsFinishedAt, IsRefusedAt, IsReturnedAt, IsTakenAt, led_by};
 ghost use Rattle.ls_workers.specs.Refusals.{is_shortage, may_refuse_return, may_refuse_run};
-ghost use Rattle.ls_workers.specs.Seats.{Agrees, AgreesAll, HasAgreed, HasHistory, HasRoom, HaveHistory, Logs, since, logged_by};
+ghost use Rattle.ls_workers.specs.Seats.{Agrees, AgreesAll, HasAgreed, HasHistory, HasRoomForEntry, HaveHistory, Logs, since, logged_by};
 ghost use Rattle.ls_workers.specs.Ends.{first_waiting, is_first, has_job, has_job_for, has_news};
 
 use crate::agree::strays;
@@ -201,7 +201,7 @@ impl<C: Crew> BoardState<C> {
         requires allowed { IsAllowed event }
         requires some { IfSome note (λ noted. (noted ≡ note_of event) × (opens_too_large event ≡ false) × HasSmallText noted) }
         requires none { IfNone note (opens_too_large event ≡ true) }
-        requires room { HasRoom seat.old.audit_log }
+        requires room { HasRoomForEntry seat.old.audit_log }
         ensures history { heard_of seat.new.front ≡ heard_of seat.old.front ++ (said, result) ∷ [] }
         ensures added { seat.new.front ≡ self.old.history ++ entry.Heard said result ∷ [] }
         ensures all { seat.new.front ≡ self.new.history }

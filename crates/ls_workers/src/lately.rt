@@ -1,6 +1,6 @@
 //! The texts that all workers together were asked about last.
 ghost use Rattle.std.specs.Prelude.{◌≡◌, ◌≢◌, ◌+◌, ◌%◌, IfNone, IfSome};
-ghost use Rattle.ls_answers.specs.Remembered.{IsLent, IsLetGo, IsShared, IsTakenBack, nothing};
+ghost use Rattle.ls_answers.specs.Remembered.{IsLent, IsLetGo, IsShared, IsTakenBack, nothing_kept};
 
 use ls_answers::Recent;
 use ls_desk::SharedSnapshot;
@@ -25,7 +25,7 @@ pub struct Lent {
 impl Lately {
     /// Nothing yet. Takes no memory.
     pub fn new() -> Lately
-        ensures texts { result.texts ≡ nothing }
+        ensures texts { result.texts ≡ nothing_kept }
         ensures closed { result.closed ≡ 0 }
     {
         Lately {
@@ -71,7 +71,7 @@ impl Lately {
     /// isn't known all go. Gives what goes, as texts of their own.
     pub fn let_go(&mut self, text: &Option<SharedSnapshot>) -> Recent
         ensures near { IfSome text.now (λ _. IsLetGo self.old.texts self.new.texts result) }
-        ensures all { IfNone text.now ((self.new.texts ≡ nothing) × (result ≡ self.old.texts)) }
+        ensures all { IfNone text.now ((self.new.texts ≡ nothing_kept) × (result ≡ self.old.texts)) }
         ensures closed { self.new.closed ≡ (self.old.closed + 1) % 18446744073709551616 }
     {
         self.closed = self.closed.wrapping_add(1);

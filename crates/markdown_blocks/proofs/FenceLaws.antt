@@ -4,14 +4,14 @@ use Rattle.std.specs.Prelude.{flat_map, nat_eq}
 use Rattle.std.proofs.lemmas.Grind.{flat_map-append}
 use Rattle.std.proofs.lemmas.List.{append-nil, at_drop_more, take_all}
 use Rattle.ls_text.specs.Lines.{ends_line}
-use Rattle.origins.specs.Origins.{Sourced, aligned, grammar_of}
+use Rattle.origins.specs.Origins.{Sourced, aligned, gathered_grammar}
 use Rattle.markdown_blocks.specs.declared.fence.Fence.{Fence}
 use Rattle.markdown_blocks.specs.declared.reading.Reading.{Reading}
 use Rattle.markdown_blocks.specs.declared.reading.Reading.TheVariants.{Text, BehindBlock, BehindAttributes, Comment, Extension, Block}
 use Rattle.markdown_blocks.specs.declared.beside.Beside.{Beside}
 use Rattle.markdown_blocks.specs.Fences.{Line, behind_line, fenced_blocks, closes_fence, fence_content, ended_block, first_says, markdown_blocks, placed_lines_from, put_placed, says_abnf, with_word, without_end}
 use Rattle.markdown_blocks.specs.own.Reading.{Finds, abnf_of, if_abnf, line_len, with_blocks}
-use Rattle.markdown_blocks.specs.Unread.{Fenced, all_blocks, begins_list, beside_behind, block_asides, draft_blocks, ended, first_lists, no_list, with_list}
+use Rattle.markdown_blocks.specs.Unread.{Fenced, all_blocks, begins_list, beside_behind, block_asides, draft_blocks, block_ended, first_lists, no_list, with_list}
 
 -- ---- the first line of a text
 
@@ -53,7 +53,7 @@ lines_first at (c ∷ d ∷ t) lt = by_test (ends_line c (d ∷ t)) (lines_first
 -- ---- a line of a block
 
 pub blocks_closed : (end : ℕ) (fence : Fence) (beside : Beside) (content : List Sourced) (l : Line) (ls : List Line) → closes_fence fence (without_end l.1) ≡ true
-    → all_blocks end (Block fence) beside content (l ∷ ls) ≡ ended (with_word (first_says ls) fence) (with_list (first_lists ls) beside) content l.0 ∷ all_blocks end BehindBlock no_list [] ls
+    → all_blocks end (Block fence) beside content (l ∷ ls) ≡ block_ended (with_word (first_says ls) fence) (with_list (first_lists ls) beside) content l.0 ∷ all_blocks end BehindBlock no_list [] ls
 unfolding all_blocks
 blocks_closed end fence beside content l ls e = rw e refl
 
@@ -90,8 +90,8 @@ next_lists at [] = refl
 next_lists at (c ∷ t) = ap first_lists (lines_first at (c ∷ t) (omega arith))
 
 -- the grammar of blocks and then of others
-grammar_append : (bs cs : List Fenced) → grammar_of (abnf_of (bs ++ cs)) ≡ grammar_of (abnf_of bs) ++ grammar_of (abnf_of cs)
-grammar_append bs cs = ap grammar_of (flat_map-append if_abnf bs cs) ∙ flat_map-append aligned (abnf_of bs) (abnf_of cs)
+grammar_append : (bs cs : List Fenced) → gathered_grammar (abnf_of (bs ++ cs)) ≡ gathered_grammar (abnf_of bs) ++ gathered_grammar (abnf_of cs)
+grammar_append bs cs = ap gathered_grammar (flat_map-append if_abnf bs cs) ∙ flat_map-append aligned (abnf_of bs) (abnf_of cs)
 
 -- blocks are found and then others
 pub with_more : (found : Finds) (bs cs : List Fenced) → with_blocks (with_blocks found bs) cs ≡ with_blocks found (bs ++ cs)
@@ -99,7 +99,7 @@ with_more found bs cs = by_wish found.0
   where
     by_wish : (wants : Bool) → with_blocks (with_blocks (wants, found.1, found.2) bs) cs ≡ with_blocks (wants, found.1, found.2) (bs ++ cs)
     by_wish true = (λ i. (true, found.1, (append_assoc found.2 (flat_map block_asides bs) (flat_map block_asides cs) ∙ ap (λ found_asides. found.2 ++ found_asides) (sym (flat_map-append block_asides bs cs))) i))
-    by_wish false = (λ i. (false, (append_assoc found.1 (grammar_of (abnf_of bs)) (grammar_of (abnf_of cs)) ∙ ap (λ g. found.1 ++ g) (sym (grammar_append bs cs))) i, found.2))
+    by_wish false = (λ i. (false, (append_assoc found.1 (gathered_grammar (abnf_of bs)) (gathered_grammar (abnf_of cs)) ∙ ap (λ g. found.1 ++ g) (sym (grammar_append bs cs))) i, found.2))
 
 -- or none
 with_none : (found : Finds) → found ≡ with_blocks found []
@@ -153,14 +153,14 @@ module _ (end : ℕ) where
 
       by_close : (b : Bool) → abnf_of (all_blocks end BehindBlock no_list [] ls) ≡ fenced_blocks end BehindBlock [] ls
           → abnf_of (all_blocks end (Block fence) beside (content ++ fence_content fence l) ls) ≡ fenced_blocks end (Block fence) (content ++ fence_content fence l) ls
-          → abnf_of (cond b (ended word (with_list (first_lists ls) beside) content l.0 ∷ all_blocks end BehindBlock no_list [] ls) (all_blocks end (Block fence) beside (content ++ fence_content fence l) ls))
+          → abnf_of (cond b (block_ended word (with_list (first_lists ls) beside) content l.0 ∷ all_blocks end BehindBlock no_list [] ls) (all_blocks end (Block fence) beside (content ++ fence_content fence l) ls))
           ≡ cond b (ended_block word content l.0 ++ fenced_blocks end BehindBlock [] ls) (fenced_blocks end (Block fence) (content ++ fence_content fence l) ls)
       by_close true behind more = ap (λ bs. ended_block word content l.0 ++ bs) behind
       by_close false behind more = more
 
 -- so the grammar of a draft is that of its blocks of ABNF
-pub abnf_blocks : (draft : List ℕ) → grammar_of (abnf_of (draft_blocks draft)) ≡ grammar_of (markdown_blocks draft)
-abnf_blocks draft = ap grammar_of (abnf_among (length draft) (placed_lines_from 0 draft) Text no_list [])
+pub abnf_blocks : (draft : List ℕ) → gathered_grammar (abnf_of (draft_blocks draft)) ≡ gathered_grammar (markdown_blocks draft)
+abnf_blocks draft = ap gathered_grammar (abnf_among (length draft) (placed_lines_from 0 draft) Text no_list [])
 
 pub lines_split : (at n : ℕ) (t line behind : List ℕ) → 0 < length t → n ≡ line_len t → line ≡ take n t → behind ≡ drop n t → length line ≡ n → (at, line) ∷ placed_lines_from (at + length line) behind ≡ placed_lines_from at t
 lines_split at n t line behind some n_is line_is behind_is len =
@@ -174,10 +174,10 @@ module _ (found : Finds) (end at : ℕ) (beside : Beside) (block : List Sourced)
   lines_none [] e = refl
   lines_none (c ∷ t) e = absurd (omega (arith, e))
 
-  pub end_open : (reading : Reading) (fence : Fence) {whole : Finds} → reading ≡ Block fence → with_blocks found (all_blocks end reading beside block (placed_lines_from at rest)) ≡ whole → with_blocks found (ended fence beside block at ∷ []) ≡ whole
+  pub end_open : (reading : Reading) (fence : Fence) {whole : Finds} → reading ≡ Block fence → with_blocks found (all_blocks end reading beside block (placed_lines_from at rest)) ≡ whole → with_blocks found (block_ended fence beside block at ∷ []) ≡ whole
   unfolding all_blocks
   end_open reading fence is was =
-      (λ i. with_blocks found (ended fence beside block ((let e : at ≡ end = omega (arith, none, left) in e) i) ∷ []))
+      (λ i. with_blocks found (block_ended fence beside block ((let e : at ≡ end = omega (arith, none, left) in e) i) ∷ []))
       ∙ (λ i. with_blocks found (all_blocks end (sym is i) beside block (sym (lines_none rest none) i)))
       ∙ was
 

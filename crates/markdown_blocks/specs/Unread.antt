@@ -52,17 +52,17 @@ pub record Fenced : Type 0 where
   pub block : SourcedBlock
 
 -- the block that ends at an offset
-abbrev pub ended : Fence → Beside → List Sourced → ℕ → Fenced
-ended fence beside content end = record { is_abnf = fence.is_abnf; is_bare = beside.is_bare; at = beside.at; block = record { content = content; end = end } }
+abbrev pub block_ended : Fence → Beside → List Sourced → ℕ → Fenced
+block_ended fence beside content end = record { is_abnf = fence.is_abnf; is_bare = beside.is_bare; at = beside.at; block = record { content = content; end = end } }
 
 -- All blocks of these lines, as `fenced_blocks` of `Rattle.markdown_blocks.specs.Fences` has those of ABNF, by what is read before the lines
 -- and what is known beside, and the content so far of a block that is open.
 unfoldable pub all_blocks : ℕ → Reading → Beside → List Sourced → List Line → List Fenced
-all_blocks end (Block fence) beside content [] = ended fence beside content end ∷ []
+all_blocks end (Block fence) beside content [] = block_ended fence beside content end ∷ []
 all_blocks end reading beside content [] = []
 all_blocks end (Block fence) beside content (l ∷ ls) =
     if closes_fence fence (without_end l.1)
-    then ended (with_word (first_says ls) fence) (with_list (first_lists ls) beside) content l.0 ∷ all_blocks end BehindBlock no_list [] ls
+    then block_ended (with_word (first_says ls) fence) (with_list (first_lists ls) beside) content l.0 ∷ all_blocks end BehindBlock no_list [] ls
     else all_blocks end (Block fence) beside (content ++ fence_content fence l) ls
 all_blocks end reading beside content (l ∷ ls) =
     let next = behind_line reading (without_end l.1) in

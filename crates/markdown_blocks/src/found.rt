@@ -95,7 +95,7 @@ fn put_asides(
     block: &Gathered,
     end: usize,
 ) -> Result<(), AllocError>
-    ensures { OnOk result (asides.new.items ≡ asides.old.items ++ spec.block_asides (spec.ended fence beside block.now end)) }
+    ensures { OnOk result (asides.new.items ≡ asides.old.items ++ spec.block_asides (spec.block_ended fence beside block.now end)) }
 {
     if fence.is_abnf {
         return put_empty(asides, alloc, are_white(block.as_str()), end);
@@ -134,7 +134,7 @@ impl Found {
         block: &Gathered,
         end: usize,
     ) -> Result<(), AllocError>
-        ensures { OnOk result (self.new ≡ with_blocks self.old (spec.ended fence beside block.now end ∷ [])) }
+        ensures { OnOk result (self.new ≡ with_blocks self.old (spec.block_ended fence beside block.now end ∷ [])) }
     {
         if self.wants_asides {
             return put_asides(&mut self.asides, self.alloc, fence, beside, block, end);

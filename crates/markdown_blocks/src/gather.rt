@@ -7,7 +7,7 @@
 
 ghost use Rattle.std.specs.Prelude.{◌≡◌, ℕ, ◌+◌, ◌<◌, ◌^◌, true, List, [], ◌∷◌, ◌++◌, IfOk, OnOk, length};
 ghost use Rattle.std.specs.Str.{chars};
-ghost use Rattle.origins.specs.Origins.{grammar_of};
+ghost use Rattle.origins.specs.Origins.{gathered_grammar};
 ghost use Rattle.markdown_blocks.specs.Fences.{Line, behind_line, closes_fence, fence_content, first_says, markdown_blocks, says_abnf, without_end};
 ghost use Rattle.markdown_blocks.specs.own.Reading.{first_line, with_blocks};
 ghost use Rattle.markdown_blocks.specs.Unread.{all_blocks, begins_list, beside_behind, draft_blocks, first_lists, unread_blocks};
@@ -198,7 +198,7 @@ fn found_in(alloc: Global, wants_asides: bool, draft: &Snapshot) -> Result<Found
 ///
 /// Where an allocation is refused.
 pub fn gather_markdown(alloc: Global, draft: &Snapshot) -> Result<Gathered, AllocError>
-    ensures { IfOk result (λ g. g ≡ grammar_of (markdown_blocks draft.now)) }
+    ensures { IfOk result (λ g. g ≡ gathered_grammar (markdown_blocks draft.now)) }
 {
     let found = found_in(alloc, false, draft)?;
     Ok(found.into_grammar())

@@ -56,5 +56,5 @@ aligned block =
     left_aligned base base block.content ++ (10, block.end) ∷ []
 
 -- the grammar of blocks: one behind the other, each aligned by itself
-abbrev pub grammar_of : List SourcedBlock → List Sourced
-grammar_of blocks = flat_map aligned blocks
+abbrev pub gathered_grammar : List SourcedBlock → List Sourced
+gathered_grammar blocks = flat_map aligned blocks

@@ -54,7 +54,7 @@ is_feed_alone (b ∷ bs) = b == 12 && list_all is_blank_byte bs
 
 -- A line is of a page break where it is a footer or has a form feed, or where it stands right behind a form feed and isn't indented, as a
 -- header does. Else it is blank, or has words.
-abbrev pub kind_of : Bool → Text → Kind
-kind_of behind_feed line =
+abbrev pub line_kind : Bool → Text → Kind
+line_kind behind_feed line =
     if is_feed line || is_footer line || (behind_feed && not (is_blank_byte (byte_at line 0))) then Break
     else (if list_all is_blank_byte line then Blank else Words)

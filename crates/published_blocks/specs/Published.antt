@@ -15,30 +15,30 @@ use Rattle.published_blocks.specs.declared.run.Run.{Run}
 use Rattle.published_blocks.specs.Runs.{published_runs}
 
 -- nothing
-abbrev pub nothing : Published
-nothing = record { grammar = []; unread = [] }
+abbrev pub nothing_found : Published
+nothing_found = record { grammar = []; unread = [] }
 
 -- what is found, and then more
-abbrev pub joined : Published → Published → Published
-joined a b = record { grammar = a.grammar ++ b.grammar; unread = a.unread ++ b.unread }
+abbrev pub found_with : Published → Published → Published
+found_with a b = record { grammar = a.grammar ++ b.grammar; unread = a.unread ++ b.unread }
 
 -- What is found in a run that begins as a rule does, by what its blocks are: where it is rules alone, it is grammar, left aligned; else
 -- that not all of it is rules.
-abbrev pub found_by : Run → Counts → Published
-found_by run counts =
+abbrev pub published_by : Run → Counts → Published
+published_by run counts =
     if are_rules_alone counts then record { grammar = aligned (record { content = run.block; end = run.end }); unread = [] }
     else record { grammar = []; unread = record { at = run.begin; lack = Faulty } ∷ [] }
 
 -- This is found in a run, by its first line with content: in one that doesn't begin as a rule does nothing is.
 abbrev pub IsFoundBy : Lead → Run → Published → Type 0
-IsFoundBy Unknown run found = found ≡ nothing
-IsFoundBy Other run found = found ≡ nothing
-IsFoundBy (Rule n) run found = (counts : Counts) × AreCounted (characters run.block) counts × (found ≡ found_by run counts)
+IsFoundBy Unknown run found = found ≡ nothing_found
+IsFoundBy Other run found = found ≡ nothing_found
+IsFoundBy (Rule n) run found = (counts : Counts) × AreCounted (characters run.block) counts × (found ≡ published_by run counts)
 
 -- This is found in runs, one after the other.
 abbrev pub AreFoundIn : List Run → Published → Type 0
-AreFoundIn [] found = found ≡ nothing
-AreFoundIn (run ∷ runs) found = (a : Published) × (b : Published) × IsFoundBy run.lead run a × AreFoundIn runs b × (found ≡ joined a b)
+AreFoundIn [] found = found ≡ nothing_found
+AreFoundIn (run ∷ runs) found = (a : Published) × (b : Published) × IsFoundBy run.lead run a × AreFoundIn runs b × (found ≡ found_with a b)
 
 -- This is found in a published text. There is one such thing (`published_grammars_exist`), and only one (`published_grammars_are_unique`).
 abbrev pub IsPublished : List ℕ → Published → Type 0

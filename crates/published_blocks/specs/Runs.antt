@@ -14,7 +14,7 @@ use Rattle.published_blocks.specs.declared.run.Lead.{Lead}
 use Rattle.published_blocks.specs.declared.run.Lead.TheVariants.{Unknown, Other, Rule}
 use Rattle.published_blocks.specs.declared.run.Run.{Run}
 use Rattle.published_blocks.specs.declared.reading.Reading.{Reading}
-use Rattle.published_blocks.specs.Lines.{is_feed_alone, is_head, kind_of}
+use Rattle.published_blocks.specs.Lines.{is_feed_alone, is_head, line_kind}
 
 -- ---- a run
 
@@ -28,8 +28,8 @@ lead_with Unknown line = if is_content line then lead_of line else Unknown
 lead_with lead line = lead
 
 -- the offset at which a line begins
-abbrev pub start : List ℕ → ℕ → ℕ
-start text at = offset_of (units Utf32) text at 0
+abbrev pub line_start : List ℕ → ℕ → ℕ
+line_start text at = offset_of (units Utf32) text at 0
 
 -- a line, and LF in the place of its line end
 abbrev pub line_content : ℕ → List ℕ → List Sourced
@@ -53,11 +53,11 @@ no_run begin = record { begin = begin; end = begin; lead = Unknown; block = [] }
 -- A line with words goes on with the run before it, unless something stands between. Behind a page break it does where the run begins with
 -- a rule, and the line is indented deeper than that and begins no other one (RFC 5234 section 2.2 has the lines that continue a rule
 -- indented).
-abbrev pub goes_on : Gap → Lead → Text → Bool
-goes_on Nothing lead line = true
-goes_on Blank lead line = false
-goes_on Page (Rule n) line = nat_lt n (indent line) && not (is_head line)
-goes_on Page lead line = false
+abbrev pub run_goes_on : Gap → Lead → Text → Bool
+run_goes_on Nothing lead line = true
+run_goes_on Blank lead line = false
+run_goes_on Page (Rule n) line = nat_lt n (indent line) && not (is_head line)
+run_goes_on Page lead line = false
 
 -- what stands between lines, with a blank line more
 abbrev pub with_blank : Gap → Gap
@@ -73,23 +73,23 @@ abbrev pub run_with : Bool → ℕ → List ℕ → Run → Run
 run_with goes begin line run = if goes then with_line begin line run else with_line begin line (no_run begin)
 
 -- what is read behind a line of this kind, which begins at this offset
-abbrev pub behind_line : Kind → ℕ → List ℕ → Reading → Reading
-behind_line kind.Blank begin line r = record { run = r.run; gap = with_blank r.gap; behind_feed = false }
-behind_line kind.Break begin line r = record { run = r.run; gap = Page; behind_feed = is_feed_alone (encode_utf8_all line) }
-behind_line kind.Words begin line r =
-    record { run = run_with (goes_on r.gap r.run.lead (encode_utf8_all line)) begin line r.run; gap = Nothing; behind_feed = false }
+abbrev pub read_behind : Kind → ℕ → List ℕ → Reading → Reading
+read_behind kind.Blank begin line r = record { run = r.run; gap = with_blank r.gap; behind_feed = false }
+read_behind kind.Break begin line r = record { run = r.run; gap = Page; behind_feed = is_feed_alone (encode_utf8_all line) }
+read_behind kind.Words begin line r =
+    record { run = run_with (run_goes_on r.gap r.run.lead (encode_utf8_all line)) begin line r.run; gap = Nothing; behind_feed = false }
 
 -- the run that a line of this kind ends
-abbrev pub ended_by : Kind → List ℕ → Reading → List Run
-ended_by kind.Words line r = if goes_on r.gap r.run.lead (encode_utf8_all line) then [] else r.run ∷ []
-ended_by kind line r = []
+abbrev pub run_ended_by : Kind → List ℕ → Reading → List Run
+run_ended_by kind.Words line r = if run_goes_on r.gap r.run.lead (encode_utf8_all line) then [] else r.run ∷ []
+run_ended_by kind line r = []
 
 -- the runs of lines from this one on, by what is read before them
 unfoldable pub runs_from : List ℕ → Reading → ℕ → List (List ℕ) → List Run
 runs_from text r at [] = r.run ∷ []
 runs_from text r at (l ∷ ls) =
-    let kind = kind_of r.behind_feed (encode_utf8_all l) in
-    ended_by kind l r ++ runs_from text (behind_line kind (start text at) l r) (suc at) ls
+    let kind = line_kind r.behind_feed (encode_utf8_all l) in
+    run_ended_by kind l r ++ runs_from text (read_behind kind (line_start text at) l r) (suc at) ls
 
 -- the runs of a published text
 abbrev pub published_runs : List ℕ → List Run

@@ -26,7 +26,7 @@ impl Published {
 
     // Nothing.
     pub(crate) fn new(alloc: Global) -> Published
-        ensures { result ≡ spec.nothing }
+        ensures { result ≡ spec.nothing_found }
     {
         Published {
             grammar: Gathered::new(alloc),
@@ -36,7 +36,7 @@ impl Published {
 
     // Adds what is found in a run, by what its blocks are.
     fn add(&mut self, run: &Run, counts: Counts) -> Result<(), AllocError>
-        ensures { OnOk result (self.new ≡ spec.joined self.old (spec.found_by run.now counts)) }
+        ensures { OnOk result (self.new ≡ spec.found_with self.old (spec.published_by run.now counts)) }
     {
         if counts.are_rules_alone() {
             return self.grammar.add_block(&run.block, run.end);

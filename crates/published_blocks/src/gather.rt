@@ -4,10 +4,10 @@ ghost use Rattle.std.specs.Prelude.{◌≡◌, ◌+◌, ◌^◌, ◌<◌, IfErr,
 ghost use Rattle.std.specs.Str.{chars};
 ghost use Rattle.ls_text.specs.Lines.{line_ends};
 ghost use Rattle.published_blocks.specs.Published as spec;
-ghost use Rattle.published_blocks.specs.Runs.{behind_line, ended_by, start};
+ghost use Rattle.published_blocks.specs.Runs.{read_behind, run_ended_by, line_start};
 ghost use Rattle.published_blocks.specs.declared.line.Kind.TheVariants.{Words};
-ghost use Rattle.published_blocks.specs.Lines.{kind_of};
-ghost use Rattle.published_blocks.specs.own.Reads.{AddsRuns, AreRefused};
+ghost use Rattle.published_blocks.specs.Lines.{line_kind};
+ghost use Rattle.published_blocks.specs.own.Reads.{AddsRuns, RunsAreRefused};
 
 use crate::found::{Published, end_run};
 use crate::line::{Kind, is_feed_alone, kind_of};
@@ -18,7 +18,7 @@ use std::alloc::Global;
 // The offset at which a line begins.
 fn start_of(text: &Snapshot, at: usize) -> usize
     requires { at < line_ends text.now + 1 }
-    ensures start { result ≡ start text.now at }
+    ensures start { result ≡ line_start text.now at }
     ensures small { result < 2 ^ 63 }
 {
     let _count = text.char_count();
@@ -38,9 +38,9 @@ fn read_words(
     begin: usize,
 ) -> Result<(), TextFault>
     requires { begin < 2 ^ 63 }
-    ensures reading { OnOk result (reading.new ≡ behind_line Words begin (chars line.now) reading.old) }
-    ensures found { OnOk result (AddsRuns (ended_by Words (chars line.now) reading.old) found.old found.new) }
-    ensures fault { IfErr result (AreRefused (ended_by Words (chars line.now) reading.old)) }
+    ensures reading { OnOk result (reading.new ≡ read_behind Words begin (chars line.now) reading.old) }
+    ensures found { OnOk result (AddsRuns (run_ended_by Words (chars line.now) reading.old) found.old found.new) }
+    ensures fault { IfErr result (RunsAreRefused (run_ended_by Words (chars line.now) reading.old)) }
 {
     if !reading.goes_on(line.as_bytes()) {
         match end_run(found, alloc, &reading.run) {
@@ -61,9 +61,9 @@ fn read_line(
     begin: usize,
 ) -> Result<(), TextFault>
     requires { begin < 2 ^ 63 }
-    ensures reading { OnOk result (reading.new ≡ behind_line (kind_of reading.old.behind_feed line.now) begin (chars line.now) reading.old) }
-    ensures found { OnOk result (AddsRuns (ended_by (kind_of reading.old.behind_feed line.now) (chars line.now) reading.old) found.old found.new) }
-    ensures fault { IfErr result (AreRefused (ended_by (kind_of reading.old.behind_feed line.now) (chars line.now) reading.old)) }
+    ensures reading { OnOk result (reading.new ≡ read_behind (line_kind reading.old.behind_feed line.now) begin (chars line.now) reading.old) }
+    ensures found { OnOk result (AddsRuns (run_ended_by (line_kind reading.old.behind_feed line.now) (chars line.now) reading.old) found.old found.new) }
+    ensures fault { IfErr result (RunsAreRefused (run_ended_by (line_kind reading.old.behind_feed line.now) (chars line.now) reading.old)) }
 {
     match kind_of(reading.behind_feed, line.as_bytes()) {
         Kind::Blank => {

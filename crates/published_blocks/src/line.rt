@@ -162,7 +162,7 @@ pub fn is_feed_alone(line: &[u8]) -> bool
 
 // What a line is, which may stand right behind a form feed.
 pub fn kind_of(behind_feed: bool, line: &[u8]) -> Kind
-    ensures { result ≡ spec.kind_of behind_feed line.now }
+    ensures { result ≡ spec.line_kind behind_feed line.now }
 {
     if is_feed(line) || is_footer(line) || (behind_feed && !is_blank(byte_at(line, 0))) {
         Kind::Break

@@ -52,7 +52,7 @@ impl Reading {
 
     // Whether a line with words goes on with the run.
     pub fn goes_on(&self, line: &[u8]) -> bool
-        ensures { result ≡ spec.goes_on self.now.gap self.now.run.lead line.now }
+        ensures { result ≡ spec.run_goes_on self.now.gap self.now.run.lead line.now }
     {
         self.gap.is_passed(self.run.lead, line)
     }

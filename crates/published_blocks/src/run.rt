@@ -57,7 +57,7 @@ impl Gap {
 
     // Whether a line with words behind it goes on with a run.
     pub fn is_passed(self, lead: Lead, line: &[u8]) -> bool
-        ensures { result ≡ spec.goes_on self lead line.now }
+        ensures { result ≡ spec.run_goes_on self lead line.now }
     {
         match (self, lead) {
             (Gap::Nothing, _) => true,

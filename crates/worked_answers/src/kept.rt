@@ -2,7 +2,7 @@
 //! with what the next text's own blocks and its grammar say.
 
 use super::found::{finds, snapshot, told};
-use abnf_kept::{Diagnosed, Recent};
+use incremental_findings::{Diagnosed, Recent};
 use ls_text::Snapshot;
 use std::alloc::{AllocError, Global};
 use std::sync::Arc;

@@ -8,7 +8,7 @@ use Rattle.ls_machine.specs.declared.event.Event.TheVariants as event
 use Rattle.ls_machine.specs.declared.event.Out.TheVariants as out
 use Rattle.ls_history.specs.declared.history_entry.HistoryEntry.{HistoryEntry}
 use Rattle.ls_history.specs.declared.history_entry.HistoryEntry.TheVariants.{Began, Heard, Left}
-use Rattle.ls_history.specs.History.{IsLegal}
+use Rattle.ls_history.specs.History.{IsLegalHistory}
 use Rattle.ls_history.specs.Told.{events_of, heard_of, outs_of}
 
 -- a body of two bytes, `hi`
@@ -28,5 +28,5 @@ pub record IsShort : Type 0 where
   pub heard : heard_of short ≡ (Say body, Ok answer.Said) ∷ (DidClose [], Err NotOpen) ∷ []
   pub outs : outs_of short ≡ out.Said body ∷ []
   pub events : events_of short ≡ event.Said body ∷ event.Sent 0 ∷ []
-  pub legal : IsLegal short
-  pub other : IsLegal (refused_for AlreadyOpen) → ⊥
+  pub legal : IsLegalHistory short
+  pub other : IsLegalHistory (refused_for AlreadyOpen) → ⊥

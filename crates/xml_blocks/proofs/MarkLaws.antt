@@ -12,7 +12,7 @@ use Rattle.std.proofs.lemmas.Str.{chars-IsAscii, chars-append, encodes-append, e
 use Rattle.memchr.specs.Find.{Nowhere, OccursAt}
 use Rattle.memchr.proofs.lemmas.MatchLemmas.{OccursAt-from_part, OccursAt-split}
 use Rattle.xml_blocks.specs.own.Reading.{is_low}
-use Rattle.xml_blocks.specs.Xml.{begins, until}
+use Rattle.xml_blocks.specs.Xml.{begins_with_mark, until}
 
 -- ---- marks in a list
 
@@ -35,22 +35,22 @@ ascii_mark (m ∷ ms) e zero = low_from m (both (is_low m) (list_all is_low ms) 
 ascii_mark (m ∷ ms) e (suc i) = ascii_mark ms (both (is_low m) (list_all is_low ms) e).1 i
 
 -- a text begins with a mark that is put in front of it
-begins_itself : (mark t : List ℕ) → begins mark (mark ++ t) ≡ true
-unfolding begins
+begins_itself : (mark t : List ℕ) → begins_with_mark mark (mark ++ t) ≡ true
+unfolding begins_with_mark
 begins_itself [] t = refl
 begins_itself (m ∷ ms) t = rw (eq-eqb m m refl) (begins_itself ms t)
 
 -- and what begins with a mark is the mark and the rest
-begins_with : (mark t : List ℕ) → begins mark t ≡ true → t ≡ mark ++ drop (length mark) t
-unfolding begins
+begins_with : (mark t : List ℕ) → begins_with_mark mark t ≡ true → t ≡ mark ++ drop (length mark) t
+unfolding begins_with_mark
 begins_with [] t e = refl
 begins_with (m ∷ ms) [] e = cc
 begins_with (m ∷ ms) (c ∷ t) e =
-    let parts = both (eqb c m) (begins ms t) e in
+    let parts = both (eqb c m) (begins_with_mark ms t) e in
     (λ i. same_from c m parts.0 i ∷ begins_with ms t parts.1 i)
 
 -- the first place at which a text goes on with the mark
-until_at : (mark cs : List ℕ) (n : ℕ) → n < length cs → begins mark (drop n cs) ≡ true → ((i : ℕ) → i < n → begins mark (drop i cs) ≡ false) → until mark cs ≡ Some n
+until_at : (mark cs : List ℕ) (n : ℕ) → n < length cs → begins_with_mark mark (drop n cs) ≡ true → ((i : ℕ) → i < n → begins_with_mark mark (drop i cs) ≡ false) → until mark cs ≡ Some n
 unfolding until
 until_at mark [] n lt stands never = absurd (omega (arith, lt))
 until_at mark (c ∷ t) zero lt stands never = rw stands refl
@@ -58,7 +58,7 @@ until_at mark (c ∷ t) (suc n) lt stands never =
     rw (never 0 (omega arith)) (ap (option_map suc) (until_at mark t n (omega (arith, lt)) stands (λ i l. never (suc i) (omega (arith, l)))))
 
 -- there is none
-until_never : (mark cs : List ℕ) → ((i : ℕ) → begins mark (drop i cs) ≡ false) → until mark cs ≡ None
+until_never : (mark cs : List ℕ) → ((i : ℕ) → begins_with_mark mark (drop i cs) ≡ false) → until mark cs ≡ None
 unfolding until
 until_never mark [] never = refl
 until_never mark (c ∷ t) never = rw (never 0) (ap (option_map suc) (until_never mark t (λ i. never (suc i))))
@@ -79,7 +79,7 @@ module _ (bs ds mark : List ℕ) (u : IsUtf8 bs) (same : ds ≡ bs) (low : list_
   bytes_are i = sym (encodes-chars bs u) ∙ ap encodes (sym (take-append-drop i (chars bs))) ∙ encodes-append (take i (chars bs)) (drop i (chars bs))
 
   -- a mark at a character is one at its byte
-  occurs : (i : ℕ) → begins mark (drop i (chars bs)) ≡ true → OccursAt bs mark (byte_of i)
+  occurs : (i : ℕ) → begins_with_mark mark (drop i (chars bs)) ≡ true → OccursAt bs mark (byte_of i)
   occurs i stands =
       let xs = encodes (take i (chars bs)) in
       let more = drop (length mark) (drop i (chars bs)) in
@@ -91,8 +91,8 @@ module _ (bs ds mark : List ℕ) (u : IsUtf8 bs) (same : ds ≡ bs) (low : list_
       OccursAt-from_part bs mark (length xs) (omega (arith, ap length parts, length-append xs (mark ++ encodes more), length-append mark (encodes more))) part
 
   -- where no mark stands at its byte, none stands at a character
-  none_at : (i : ℕ) → (OccursAt bs mark (byte_of i) → ⊥) → begins mark (drop i (chars bs)) ≡ false
-  none_at i never = ⊎_elim (λ stands. absurd (never (occurs i stands))) (λ e. e) (cases_Bool (begins mark (drop i (chars bs))))
+  none_at : (i : ℕ) → (OccursAt bs mark (byte_of i) → ⊥) → begins_with_mark mark (drop i (chars bs)) ≡ false
+  none_at i never = ⊎_elim (λ stands. absurd (never (occurs i stands))) (λ e. e) (cases_Bool (begins_with_mark mark (drop i (chars bs))))
 
   -- a character begins in the text
   byte_le : (i : ℕ) → byte_of i ≤ length bs
@@ -158,5 +158,5 @@ module _ (bs ds mark : List ℕ) (u : IsUtf8 bs) (same : ds ≡ bs) (low : list_
           let nowhere : Nowhere (OccursAt bs mark) 0 k = subst (λ t. Nowhere (OccursAt t mark) 0 k) same never in
           let here : drop (length (chars front)) (chars bs) ≡ mark ++ chars (drop (k + length mark) bs) =
           ap (drop (length (chars front))) parts ∙ drop-append_seam (chars front) (chars (drop k bs)) ∙ behind in
-          sym (until_at mark (chars bs) (length (chars front)) mark_small (ap (begins mark) here ∙ begins_itself mark (chars (drop (k + length mark) bs)))
+          sym (until_at mark (chars bs) (length (chars front)) mark_small (ap (begins_with_mark mark) here ∙ begins_itself mark (chars (drop (k + length mark) bs)))
           (λ i l. none_at i (nowhere (byte_of i) (omega arith) (before i l))))

@@ -9,7 +9,7 @@ use Rattle.xml_blocks.specs.declared.piece.Kind.TheVariants.{Text, Comment, Sect
 use Rattle.xml_blocks.specs.declared.piece.Piece.{Piece}
 use Rattle.xml_blocks.specs.own.Reading.{IsPieceOf}
 use Rattle.std.specs.List.{prefix_len}
-use Rattle.xml_blocks.specs.Xml.{begins, is_plain_char, markup, piece_at, piece_of, reference, referred_piece, tag_len, until}
+use Rattle.xml_blocks.specs.Xml.{begins_with_mark, is_plain_char, markup, piece_at, piece_of, reference, referred_piece, tag_len, until}
 
 -- whether a piece is text
 abbrev is_text : Kind → Bool
@@ -43,7 +43,7 @@ one_of false false a b c e f g = g
 -- markup is no text
 no_markup : (at : ℕ) (t : List ℕ) → reads_text (markup at t) ≡ false
 no_markup at t =
-    one_of (begins (33 ∷ 45 ∷ 45 ∷ []) t) (begins (33 ∷ 91 ∷ 67 ∷ 68 ∷ 65 ∷ 84 ∷ 65 ∷ 91 ∷ []) t)
+    one_of (begins_with_mark (33 ∷ 45 ∷ 45 ∷ []) t) (begins_with_mark (33 ∷ 91 ∷ 67 ∷ 68 ∷ 65 ∷ 84 ∷ 65 ∷ 91 ∷ []) t)
     (piece_of Comment (CommentWithoutEnd at) (until (45 ∷ 45 ∷ 62 ∷ []) (drop 3 t)) 6) (piece_of Section (SectionWithoutEnd at) (until (93 ∷ 93 ∷ 62 ∷ []) (drop 8 t)) 11) (piece_of Tag (TagWithoutEnd at) (tag_len t) 0)
     (no_text_of Comment (CommentWithoutEnd at) (until (45 ∷ 45 ∷ 62 ∷ []) (drop 3 t)) 6 refl) (no_text_of Section (SectionWithoutEnd at) (until (93 ∷ 93 ∷ 62 ∷ []) (drop 8 t)) 11 refl) (no_text_of Tag (TagWithoutEnd at) (tag_len t) 0 refl)
 

@@ -8,7 +8,7 @@ use Rattle.origins.specs.declared.unread.Aside.{Aside}
 use Rattle.xml_blocks.specs.declared.fault.XmlFault.{XmlFault}
 use Rattle.xml_blocks.specs.declared.piece.Piece.{Piece}
 use Rattle.xml_blocks.specs.declared.unread.Held.{Held}
-use Rattle.xml_blocks.specs.Unread.{Behind, asides_from, begins_attribute, behind, from_piece, has_attribute, listed, still_held}
+use Rattle.xml_blocks.specs.Unread.{Behind, asides_from, begins_attribute, open_behind, from_piece, has_attribute, listed, still_held}
 use Rattle.xml_blocks.specs.Xml.{open_quote, piece_at}
 
 module _ (name : List ℕ) (quote : Option ℕ) (t : List ℕ) {whole : Bool} (was : has_attribute name quote t ≡ whole) where
@@ -39,7 +39,7 @@ from_behind next read at t = listed next.2 ++ asides_from next.0 next.1 read at 
 
 -- and from a piece on
 after : Option Held → List Sourced → ℕ → List ℕ → Piece → List Aside
-after held content at t piece = from_behind (behind held content piece.kind at (take piece.more t)) piece.more (suc at) t
+after held content at t piece = from_behind (open_behind held content piece.kind at (take piece.more t)) piece.more (suc at) t
 
 module _ (found : List Aside) (at : ℕ) (rest : List ℕ) (current : Option Held) (content : List Sourced) {whole : List Aside} (was : found ++ asides_from current content 0 at rest ≡ whole) where
   pub asides_end : rest ≡ [] → found ≡ whole
@@ -59,7 +59,7 @@ module _ (found : List Aside) (at : ℕ) (rest : List ℕ) (current : Option Hel
     asides_fault fault e = sym (append-nil found) ∙ ap (λ r. found ++ from_piece r (after held content at t)) e ∙ stands
 
     module _ (piece : Piece) (piece_is : Ok piece ≡ piece_at flag at c t) where
-      skipped : (next : Behind) → next ≡ behind held content piece.kind at (take piece.more t) → (found ++ listed next.2) ++ asides_from next.0 next.1 0 (at + (1 + length (take piece.more t))) (drop piece.more t) ≡ whole
+      skipped : (next : Behind) → next ≡ open_behind held content piece.kind at (take piece.more t) → (found ++ listed next.2) ++ asides_from next.0 next.1 0 (at + (1 + length (take piece.more t))) (drop piece.more t) ≡ whole
       unfolding after from_behind
       skipped next next_is =
           ap (λ a. (found ++ listed next.2) ++ asides_from next.0 next.1 0 a (drop piece.more t)) (let e : at + (1 + length (take piece.more t)) ≡ suc at + length (take piece.more t) = omega arith in e)
@@ -70,7 +70,7 @@ module _ (found : List Aside) (at : ℕ) (rest : List ℕ) (current : Option Hel
           ∙ stands
 
       pub asides_more : (text left : List ℕ) (n : ℕ) (next : Option Held) (aside : Option Aside) (more : List Sourced) (to : List Aside) → text ≡ take piece.more t → left ≡ drop piece.more t → n ≡ length text
-          → (next, more, aside) ≡ behind held content piece.kind at text → to ≡ found ++ listed aside → to ++ asides_from next more 0 (at + (1 + n)) left ≡ whole
+          → (next, more, aside) ≡ open_behind held content piece.kind at text → to ≡ found ++ listed aside → to ++ asides_from next more 0 (at + (1 + n)) left ≡ whole
       asides_more text left n next aside more to text_is left_is n_is next_is to_is =
           (λ i. to_is i ++ asides_from next more 0 (at + (1 + (n_is ∙ ap length text_is) i)) (left_is i))
-          ∙ skipped (next, more, aside) (next_is ∙ ap (behind held content piece.kind at) text_is)
+          ∙ skipped (next, more, aside) (next_is ∙ ap (open_behind held content piece.kind at) text_is)

@@ -7,12 +7,12 @@ use Rattle.std.proofs.Math.Seq.{drop-append_seam}
 use Rattle.std.proofs.lemmas.Bool.Decides.{eqb_tells}
 use Rattle.std.proofs.lemmas.List.{append-nil, append_cancel_right, take-append-drop}
 use Rattle.std.proofs.lemmas.Str.{encodes-chars, length-le-encodes, chars-nil, chars-append, encodes-append, IsCharBoundary-at_seam, IsUtf8-take}
-use Rattle.origins.specs.Origins.{Sourced, SourcedBlock, aligned, grammar_of}
+use Rattle.origins.specs.Origins.{Sourced, SourcedBlock, aligned, gathered_grammar}
 use Rattle.xml_blocks.specs.declared.fault.XmlFault.{XmlFault}
 use Rattle.xml_blocks.specs.declared.gather.Open.{Open}
 use Rattle.xml_blocks.specs.declared.piece.Piece.{Piece}
 use Rattle.xml_blocks.specs.own.Reading.{front_behind, reading_element}
-use Rattle.xml_blocks.specs.Xml.{Front, Opened, at_end, begins, begins_type, behind_piece, closes_tag, element_front, ended_at, from_piece_on, has_abnf_type, is_scalar, named_value, number, open_quote, piece_at, put_before, quoted_len, value_with_digit, with_value}
+use Rattle.xml_blocks.specs.Xml.{Front, Opened, at_end, begins_with_mark, begins_type, behind_piece, closes_tag, element_front, ended_at, from_piece_on, has_abnf_type, is_scalar, named_value, number, open_quote, piece_at, put_before, quoted_len, value_with_digit, with_value}
 
 -- ---- texts
 
@@ -58,25 +58,25 @@ chars_small bs u lt = omega (arith, chars_le bs u, lt)
 
 -- ---- marks
 
-pub begins_all : (mark t : List ℕ) {whole : Bool} → length mark ≡ 0 → begins mark t ≡ whole → true ≡ whole
-unfolding begins
+pub begins_all : (mark t : List ℕ) {whole : Bool} → length mark ≡ 0 → begins_with_mark mark t ≡ whole → true ≡ whole
+unfolding begins_with_mark
 begins_all [] t e was = was
 begins_all (m ∷ ms) t e was = absurd (omega (arith, e))
 
-pub begins_none : (mark t ms : List ℕ) (m : ℕ) {whole : Bool} → mark ≡ m ∷ ms → t ≡ [] → begins mark t ≡ whole → false ≡ whole
-unfolding begins
-begins_none mark t ms m e is was = (λ i. begins (sym e i) (sym is i)) ∙ was
+pub begins_none : (mark t ms : List ℕ) (m : ℕ) {whole : Bool} → mark ≡ m ∷ ms → t ≡ [] → begins_with_mark mark t ≡ whole → false ≡ whole
+unfolding begins_with_mark
+begins_none mark t ms m e is was = (λ i. begins_with_mark (sym e i) (sym is i)) ∙ was
 
-pub begins_other : (mark t ms u : List ℕ) (m c : ℕ) {whole : Bool} → mark ≡ m ∷ ms → t ≡ c ∷ u → (c ≡ m → ⊥) → begins mark t ≡ whole → false ≡ whole
-unfolding begins
+pub begins_other : (mark t ms u : List ℕ) (m c : ℕ) {whole : Bool} → mark ≡ m ∷ ms → t ≡ c ∷ u → (c ≡ m → ⊥) → begins_with_mark mark t ≡ whole → false ≡ whole
+unfolding begins_with_mark
 begins_other mark t ms u m c e is other was =
     let differs : nat_eq c m ≡ false = elim (eqb_tells c m) [ inl x ↦ absurd (other x.1) | inr x ↦ x.0 ] in
-    (λ i. sym differs i && begins ms u) ∙ (λ i. begins (sym e i) (sym is i)) ∙ was
+    (λ i. sym differs i && begins_with_mark ms u) ∙ (λ i. begins_with_mark (sym e i) (sym is i)) ∙ was
 
-pub begins_more : (mark t ms u : List ℕ) (m c : ℕ) {whole : Bool} → mark ≡ m ∷ ms → t ≡ c ∷ u → c ≡ m → begins mark t ≡ whole → begins ms u ≡ whole
-unfolding begins
+pub begins_more : (mark t ms u : List ℕ) (m c : ℕ) {whole : Bool} → mark ≡ m ∷ ms → t ≡ c ∷ u → c ≡ m → begins_with_mark mark t ≡ whole → begins_with_mark ms u ≡ whole
+unfolding begins_with_mark
 begins_more mark t ms u m c e is same was =
-    (λ i. sym (eq-eqb c m same) i && begins ms u) ∙ (λ i. begins (sym e i) (sym is i)) ∙ was
+    (λ i. sym (eq-eqb c m same) i && begins_with_mark ms u) ∙ (λ i. begins_with_mark (sym e i) (sym is i)) ∙ was
 
 map_suc : (count : ℕ) (o : Option ℕ) → option_map (λ n. count + 1 + n) o ≡ option_map (λ n. count + n) (option_map suc o)
 map_suc count None = refl
@@ -173,14 +173,14 @@ front_skip state (suc n) at (c ∷ t) =
 pub parts_len : (n : ℕ) (t : List ℕ) → length (take n t) + length (drop n t) ≡ length t
 parts_len n t = sym (length-append (take n t) (drop n t)) ∙ ap length (take-append-drop n t)
 
-grammar_of_append : (bs cs : List SourcedBlock) → grammar_of (bs ++ cs) ≡ grammar_of bs ++ grammar_of cs
+grammar_of_append : (bs cs : List SourcedBlock) → gathered_grammar (bs ++ cs) ≡ gathered_grammar bs ++ gathered_grammar cs
 grammar_of_append [] cs = refl
-grammar_of_append (b ∷ bs) cs = ap (λ g. aligned b ++ g) (grammar_of_append bs cs) ∙ sym (append_assoc (aligned b) (grammar_of bs) (grammar_of cs))
+grammar_of_append (b ∷ bs) cs = ap (λ g. aligned b ++ g) (grammar_of_append bs cs) ∙ sym (append_assoc (aligned b) (gathered_grammar bs) (gathered_grammar cs))
 
-behind_put : (grammar : List Sourced) (bs : List SourcedBlock) (rest : Front) → front_behind (grammar ++ grammar_of bs) rest ≡ front_behind grammar (put_before bs rest)
+behind_put : (grammar : List Sourced) (bs : List SourcedBlock) (rest : Front) → front_behind (grammar ++ gathered_grammar bs) rest ≡ front_behind grammar (put_before bs rest)
 behind_put grammar bs rest =
     let pair : List Sourced → List Sourced × Option XmlFault = λ g. (g, rest.fault) in
-    ap pair (append_assoc grammar (grammar_of bs) (grammar_of rest.blocks) ∙ ap (λ g. grammar ++ g) (sym (grammar_of_append bs rest.blocks)))
+    ap pair (append_assoc grammar (gathered_grammar bs) (gathered_grammar rest.blocks) ∙ ap (λ g. grammar ++ g) (sym (grammar_of_append bs rest.blocks)))
 
 reading_some : (current : Option Open) (block : List Sourced) → is_some current ≡ is_some (reading_element current block)
 reading_some None block = refl
@@ -201,7 +201,7 @@ module _ (grammar : List Sourced) (at : ℕ) (rest : List ℕ) (current : Option
   front_ends none = ap (λ t. front_behind grammar (element_front (reading_element current block) 0 at t)) (sym none) ∙ was
 
   pub ends_grammar : rest ≡ [] → grammar ≡ whole.0
-  ends_grammar none = sym (append-nil grammar) ∙ ap (λ bs. grammar ++ grammar_of bs) (none_at_end (reading_element current block)) ∙ ap (λ r. r.0) (front_ends none)
+  ends_grammar none = sym (append-nil grammar) ∙ ap (λ bs. grammar ++ gathered_grammar bs) (none_at_end (reading_element current block)) ∙ ap (λ r. r.0) (front_ends none)
 
   module _ (c : ℕ) (t : List ℕ) (is : rest ≡ c ∷ t) (flag : Bool) (some : flag ≡ is_some current) where
     stands : front_behind grammar (from_piece_on (reading_element current block) at (piece_at flag at c t) (after (reading_element current block) at t)) ≡ whole
@@ -211,22 +211,22 @@ module _ (grammar : List Sourced) (at : ℕ) (rest : List ℕ) (current : Option
         ∙ (λ i. front_behind grammar (element_front (reading_element current block) 0 at (sym is i)))
         ∙ was
 
-    pub piece_fault : (fault : XmlFault) → Err fault ≡ piece_at flag at c t → (grammar ++ grammar_of (ended_at (reading_element current block) at), Some fault) ≡ whole
+    pub piece_fault : (fault : XmlFault) → Err fault ≡ piece_at flag at c t → (grammar ++ gathered_grammar (ended_at (reading_element current block) at), Some fault) ≡ whole
     piece_fault fault e = ap (λ r. front_behind grammar (from_piece_on (reading_element current block) at r (after (reading_element current block) at t))) e ∙ stands
 
     module _ (piece : Piece) (piece_is : Ok piece ≡ piece_at flag at c t) where
-      skipped : front_behind (grammar ++ grammar_of (behind_piece (reading_element current block) piece.kind at (take piece.more t)).1) (element_front (behind_piece (reading_element current block) piece.kind at (take piece.more t)).0 0 (at + (1 + length (take piece.more t))) (drop piece.more t)) ≡ whole
+      skipped : front_behind (grammar ++ gathered_grammar (behind_piece (reading_element current block) piece.kind at (take piece.more t)).1) (element_front (behind_piece (reading_element current block) piece.kind at (take piece.more t)).0 0 (at + (1 + length (take piece.more t))) (drop piece.more t)) ≡ whole
       unfolding after
       skipped =
           let next = behind_piece (reading_element current block) piece.kind at (take piece.more t) in
-          ap (λ a. front_behind (grammar ++ grammar_of next.1) (element_front next.0 0 a (drop piece.more t))) (let e : at + (1 + length (take piece.more t)) ≡ suc at + length (take piece.more t) = omega arith in e)
-          ∙ ap (λ r. front_behind (grammar ++ grammar_of next.1) r) (sym (front_skip next.0 piece.more (suc at) t))
+          ap (λ a. front_behind (grammar ++ gathered_grammar next.1) (element_front next.0 0 a (drop piece.more t))) (let e : at + (1 + length (take piece.more t)) ≡ suc at + length (take piece.more t) = omega arith in e)
+          ∙ ap (λ r. front_behind (grammar ++ gathered_grammar next.1) r) (sym (front_skip next.0 piece.more (suc at) t))
           ∙ behind_put grammar next.1 (element_front next.0 piece.more (suc at) t)
           ∙ ap (λ r. front_behind grammar (from_piece_on (reading_element current block) at r (after (reading_element current block) at t))) piece_is
           ∙ stands
 
-      pub piece_read : (text left : List ℕ) (n : ℕ) (next : Option Open) (to content : List Sourced) → text ≡ take piece.more t → left ≡ drop piece.more t → n ≡ length text → reading_element next content ≡ (behind_piece (reading_element current block) piece.kind at text).0 → to ≡ grammar ++ grammar_of (behind_piece (reading_element current block) piece.kind at text).1 → front_behind to (element_front (reading_element next content) 0 (at + (1 + n)) left) ≡ whole
+      pub piece_read : (text left : List ℕ) (n : ℕ) (next : Option Open) (to content : List Sourced) → text ≡ take piece.more t → left ≡ drop piece.more t → n ≡ length text → reading_element next content ≡ (behind_piece (reading_element current block) piece.kind at text).0 → to ≡ grammar ++ gathered_grammar (behind_piece (reading_element current block) piece.kind at text).1 → front_behind to (element_front (reading_element next content) 0 (at + (1 + n)) left) ≡ whole
       piece_read text left n next to content text_is left_is n_is next_is to_is =
           (λ i. front_behind (to_is i) (element_front (next_is i) 0 (at + (1 + n_is i)) (left_is i)))
-          ∙ ap (λ x. front_behind (grammar ++ grammar_of (behind_piece (reading_element current block) piece.kind at x).1) (element_front (behind_piece (reading_element current block) piece.kind at x).0 0 (at + (1 + length x)) (drop piece.more t))) text_is
+          ∙ ap (λ x. front_behind (grammar ++ gathered_grammar (behind_piece (reading_element current block) piece.kind at x).1) (element_front (behind_piece (reading_element current block) piece.kind at x).0 0 (at + (1 + length x)) (drop piece.more t))) text_is
           ∙ skipped

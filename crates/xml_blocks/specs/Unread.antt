@@ -17,7 +17,7 @@ use Rattle.xml_blocks.specs.declared.tag.Element.TheVariants.{Sourcecode, Artwor
 use Rattle.xml_blocks.specs.declared.unread.Begun.{Begun}
 use Rattle.xml_blocks.specs.declared.unread.Held.{Held}
 use Rattle.xml_blocks.specs.declared.unread.Held.TheVariants.{Marked, Unmarked}
-use Rattle.xml_blocks.specs.Xml.{block_element, begins, element_name, ends, is_empty_element, is_space, name_len, open_quote, piece_at, piece_content, reference, section_text, without_space}
+use Rattle.xml_blocks.specs.Xml.{block_element, begins_with_mark, element_name, closes_element, is_empty_element, is_space, name_len, open_quote, piece_at, piece_content, reference, section_text, without_space}
 
 -- ---- attributes and elements
 
@@ -31,7 +31,7 @@ type_word = 116 ∷ 121 ∷ 112 ∷ 101 ∷ []
 
 -- an attribute of this name stands here: the name and `=`, with white space before the `=`
 abbrev pub is_attribute : List ℕ → List ℕ → Bool
-is_attribute name t = begins name t && slice_index (without_space (drop (length name) t)) 0 == 61
+is_attribute name t = begins_with_mark name t && slice_index (without_space (drop (length name) t)) 0 == 61
 
 -- it begins behind white space outside of quotes
 abbrev pub begins_attribute : List ℕ → Option ℕ → ℕ → List ℕ → Bool
@@ -46,7 +46,7 @@ has_attribute name quote (c ∷ t) = begins_attribute name quote c t || has_attr
 abbrev pub is_start : Element → List ℕ → Bool
 is_start element t =
     let c = slice_index t (name_len element) in
-    begins (element_name element) t && (is_space c || c == 62)
+    begins_with_mark (element_name element) t && (is_space c || c == 62)
 
 -- the element `sourcecode` or `artwork` of a start tag without its `<`, whatever attributes it has
 abbrev pub started_element : List ℕ → Option Element
@@ -60,7 +60,7 @@ untyped_element t = if has_attribute type_word None t || has_attribute src None 
 
 -- a piece is an element `xi:include`, for which a file stands (XInclude 1.0, section 3.1)
 abbrev pub is_include : Kind → List ℕ → Bool
-is_include Tag t = begins (120 ∷ 105 ∷ 58 ∷ 105 ∷ 110 ∷ 99 ∷ 108 ∷ 117 ∷ 100 ∷ 101 ∷ []) t && is_space (slice_index t 10)
+is_include Tag t = begins_with_mark (120 ∷ 105 ∷ 58 ∷ 105 ∷ 110 ∷ 99 ∷ 108 ∷ 117 ∷ 100 ∷ 101 ∷ []) t && is_space (slice_index t 10)
 is_include (Text c) t = false
 is_include Comment t = false
 is_include Section t = false
@@ -114,7 +114,7 @@ still_bare begun says = record { element = begun.element; begin = begun.begin; i
 -- the block that is open behind a piece of one, and what can't be read, or can't by this piece
 abbrev pub inside : Begun → Kind → ℕ → List ℕ → Option Held × Option Unread
 inside begun kind at t =
-    if ends begun.element kind t then (None, if_empty begun.is_bare begun.begin)
+    if closes_element begun.element kind t then (None, if_empty begun.is_bare begun.begin)
     else (Some (Marked (still_bare begun (not (is_include kind t) && is_bare kind t))), if_elsewhere (is_include kind t) at)
 
 -- ---- elements without a type
@@ -153,11 +153,11 @@ abbrev pub no_content : Option Held × Option Unread → Behind
 no_content next = (next.0, [], without_text next.1)
 
 -- what is open behind a piece, and what may have to be said of what ends with it
-abbrev pub behind : Option Held → List Sourced → Kind → ℕ → List ℕ → Behind
-behind None content kind at t = no_content (outside kind at t)
-behind (Some (Marked begun)) content kind at t = no_content (inside begun kind at t)
-behind (Some (Unmarked opened)) content kind at t =
-    if ends opened.element kind t then (None, [], Some (untyped opened content at))
+abbrev pub open_behind : Option Held → List Sourced → Kind → ℕ → List ℕ → Behind
+open_behind None content kind at t = no_content (outside kind at t)
+open_behind (Some (Marked begun)) content kind at t = no_content (inside begun kind at t)
+open_behind (Some (Unmarked opened)) content kind at t =
+    if closes_element opened.element kind t then (None, [], Some (untyped opened content at))
     else (if starts_element kind t then no_content (outside kind at t) else (Some (Unmarked opened), content ++ piece_content kind at t, None))
 
 -- as a list
@@ -178,11 +178,11 @@ asides_from state content (suc read) at (c ∷ t) = asides_from state content re
 asides_from state content zero at (c ∷ t) =
     let held = still_held state c t in
     from_piece (piece_at (is_some held) at c t) (λ piece.
-    let next = behind held content piece.kind at (take piece.more t) in
+    let next = open_behind held content piece.kind at (take piece.more t) in
     listed next.2 ++ asides_from next.0 next.1 piece.more (suc at) t)
 
 -- What may have to be said of a draft in RFCXML, up to its first fault, in its order. Elements that are blocks of ABNF can't be read where
 -- they have the attribute `src` or an `xi:include` in them, nor where nothing else stands in them than white space, comments and tags. Of an
 -- element without a type, its text decides.
-abbrev pub unread_blocks : List ℕ → List Aside
-unread_blocks draft = asides_from None [] 0 0 draft
+abbrev pub unread_elements : List ℕ → List Aside
+unread_elements draft = asides_from None [] 0 0 draft

@@ -4,7 +4,7 @@ use Rattle.std.specs.Prelude.{◌≡◌, ℕ, zero, suc, ◌+◌, ◌*◌, ◌-�
 use Rattle.std.specs.Option.{option_map, is_some}
 use Rattle.std.specs.List.{prefix_len}
 use Rattle.std.specs.Char.{digit_value, is_digit, is_ascii_alphabetic, to_ascii_lowercase}
-use Rattle.origins.specs.Origins.{Sourced, SourcedBlock, from, grammar_of}
+use Rattle.origins.specs.Origins.{Sourced, SourcedBlock, from, gathered_grammar}
 use Rattle.xml_blocks.specs.declared.fault.XmlFault.{XmlFault}
 use Rattle.xml_blocks.specs.declared.fault.XmlFault.TheVariants.{BlockWithoutEnd, CommentWithoutEnd, SectionWithoutEnd, TagWithoutEnd, BadReference, Memory}
 use Rattle.xml_blocks.specs.declared.piece.Kind.{Kind}
@@ -17,15 +17,15 @@ use Rattle.xml_blocks.specs.declared.gather.Open.{Open}
 -- ---- texts
 
 -- the text begins with this mark
-unfoldable pub begins : List ℕ → List ℕ → Bool
-begins [] t = true
-begins (m ∷ ms) [] = false
-begins (m ∷ ms) (c ∷ t) = c == m && begins ms t
+unfoldable pub begins_with_mark : List ℕ → List ℕ → Bool
+begins_with_mark [] t = true
+begins_with_mark (m ∷ ms) [] = false
+begins_with_mark (m ∷ ms) (c ∷ t) = c == m && begins_with_mark ms t
 
 -- how many characters come before a mark, if it comes
 unfoldable pub until : List ℕ → List ℕ → Option ℕ
 until mark [] = None
-until mark (c ∷ t) = if begins mark (c ∷ t) then Some 0 else option_map suc (until mark t)
+until mark (c ∷ t) = if begins_with_mark mark (c ∷ t) then Some 0 else option_map suc (until mark t)
 
 -- white space, as XML section 2.3 has it: SP, HTAB, LF or CR
 abbrev pub is_space : ℕ → Bool
@@ -72,7 +72,7 @@ is_abnf_value t = is_quote (slice_index t 0) && begins_abnf_word (drop 1 t) && s
 abbrev pub is_abnf_type : List ℕ → Bool
 is_abnf_type t =
     let behind = without_space (drop 4 t) in
-    begins (116 ∷ 121 ∷ 112 ∷ 101 ∷ []) t && slice_index behind 0 == 61 && is_abnf_value (without_space (drop 1 behind))
+    begins_with_mark (116 ∷ 121 ∷ 112 ∷ 101 ∷ []) t && slice_index behind 0 == 61 && is_abnf_value (without_space (drop 1 behind))
 
 -- such an attribute begins behind white space outside of quotes
 abbrev pub begins_type : Option ℕ → ℕ → List ℕ → Bool
@@ -98,13 +98,13 @@ name_len Sourcecode = 10
 name_len Artwork = 7
 
 -- a start tag without its `<` has the name of this element, behind which comes white space: without it there is no attribute
-abbrev pub is_named : Element → List ℕ → Bool
-is_named element t = begins (element_name element) t && is_space (slice_index t (name_len element))
+abbrev pub is_tag_of : Element → List ℕ → Bool
+is_tag_of element t = begins_with_mark (element_name element) t && is_space (slice_index t (name_len element))
 
 -- the element `sourcecode` or `artwork` of a tag without its `<`, if its `type` is `abnf`, be it empty or not
 abbrev pub block_element : List ℕ → Option Element
 block_element t =
-    if has_abnf_type None t then (if is_named Sourcecode t then Some Sourcecode else (if is_named Artwork t then Some Artwork else None))
+    if has_abnf_type None t then (if is_tag_of Sourcecode t then Some Sourcecode else (if is_tag_of Artwork t then Some Artwork else None))
     else None
 
 -- the element that a tag without its `<` begins, if it is a block of ABNF and isn't empty
@@ -112,9 +112,9 @@ abbrev pub opening_element : List ℕ → Option Element
 opening_element t = if is_empty_element t then None else block_element t
 
 -- the tag without its `<` is the end tag of this element
-abbrev pub is_end : Element → List ℕ → Bool
-is_end element t =
-    slice_index t 0 == 47 && begins (element_name element) (drop 1 t) && slice_index (without_space (drop (name_len element) (drop 1 t))) 0 == 62
+abbrev pub is_end_tag : Element → List ℕ → Bool
+is_end_tag element t =
+    slice_index t 0 == 47 && begins_with_mark (element_name element) (drop 1 t) && slice_index (without_space (drop (name_len element) (drop 1 t))) 0 == 62
 
 -- ---- references, XML sections 4.1 and 4.6
 
@@ -149,27 +149,27 @@ numbered_value base front t = if is_digit (slice_index (drop front t) 0) base th
 
 -- `&#x` or `&#` with a number, here without the `&`
 abbrev pub by_number : List ℕ → Option (ℕ × ℕ)
-by_number t = if begins (35 ∷ 120 ∷ []) t then numbered_value 16 2 t else (if begins (35 ∷ []) t then numbered_value 10 1 t else None)
+by_number t = if begins_with_mark (35 ∷ 120 ∷ []) t then numbered_value 16 2 t else (if begins_with_mark (35 ∷ []) t then numbered_value 10 1 t else None)
 
 -- The same of a name that drafts have for a space (U+00A0) or a hyphen (U+2011) at which no line ends, for no space (U+200B), and for
 -- a place at which no line ends (U+2060): `nbsp;`, `nbhy;`, `zwsp;` and `wj;`. No token of ABNF has such a character, but comments and
 -- prose may.
 abbrev pub by_name : List ℕ → Option (ℕ × ℕ)
 by_name t =
-    if begins (110 ∷ 98 ∷ 115 ∷ 112 ∷ 59 ∷ []) t then Some (0xA0, 5)
-    else (if begins (110 ∷ 98 ∷ 104 ∷ 121 ∷ 59 ∷ []) t then Some (0x2011, 5)
-    else (if begins (122 ∷ 119 ∷ 115 ∷ 112 ∷ 59 ∷ []) t then Some (0x200B, 5)
-    else (if begins (119 ∷ 106 ∷ 59 ∷ []) t then Some (0x2060, 3) else by_number t)))
+    if begins_with_mark (110 ∷ 98 ∷ 115 ∷ 112 ∷ 59 ∷ []) t then Some (0xA0, 5)
+    else (if begins_with_mark (110 ∷ 98 ∷ 104 ∷ 121 ∷ 59 ∷ []) t then Some (0x2011, 5)
+    else (if begins_with_mark (122 ∷ 119 ∷ 115 ∷ 112 ∷ 59 ∷ []) t then Some (0x200B, 5)
+    else (if begins_with_mark (119 ∷ 106 ∷ 59 ∷ []) t then Some (0x2060, 3) else by_number t)))
 
 -- The reference that stands here without its `&`: its character, and how many characters it has. By name there are `&lt;`, `&gt;`,
 -- `&amp;`, `&quot;` and `&apos;` (XML section 4.6), and those of drafts.
 abbrev pub reference : List ℕ → Option (ℕ × ℕ)
 reference t =
-    if begins (108 ∷ 116 ∷ 59 ∷ []) t then Some (60, 3)
-    else (if begins (103 ∷ 116 ∷ 59 ∷ []) t then Some (62, 3)
-    else (if begins (97 ∷ 109 ∷ 112 ∷ 59 ∷ []) t then Some (38, 4)
-    else (if begins (113 ∷ 117 ∷ 111 ∷ 116 ∷ 59 ∷ []) t then Some (34, 5)
-    else (if begins (97 ∷ 112 ∷ 111 ∷ 115 ∷ 59 ∷ []) t then Some (39, 5) else by_name t))))
+    if begins_with_mark (108 ∷ 116 ∷ 59 ∷ []) t then Some (60, 3)
+    else (if begins_with_mark (103 ∷ 116 ∷ 59 ∷ []) t then Some (62, 3)
+    else (if begins_with_mark (97 ∷ 109 ∷ 112 ∷ 59 ∷ []) t then Some (38, 4)
+    else (if begins_with_mark (113 ∷ 117 ∷ 111 ∷ 116 ∷ 59 ∷ []) t then Some (34, 5)
+    else (if begins_with_mark (97 ∷ 112 ∷ 111 ∷ 115 ∷ 59 ∷ []) t then Some (39, 5) else by_name t))))
 
 -- ---- pieces of a draft: each has a first character and so many more
 
@@ -182,8 +182,8 @@ piece_of kind fault (Some n) front = Ok (record { kind = kind; more = n + front 
 -- (section 2.7), or else a tag.
 abbrev pub markup : ℕ → List ℕ → Result Piece XmlFault
 markup at t =
-    if begins (33 ∷ 45 ∷ 45 ∷ []) t then piece_of Comment (CommentWithoutEnd at) (until (45 ∷ 45 ∷ 62 ∷ []) (drop 3 t)) 6
-    else (if begins (33 ∷ 91 ∷ 67 ∷ 68 ∷ 65 ∷ 84 ∷ 65 ∷ 91 ∷ []) t then piece_of Section (SectionWithoutEnd at) (until (93 ∷ 93 ∷ 62 ∷ []) (drop 8 t)) 11
+    if begins_with_mark (33 ∷ 45 ∷ 45 ∷ []) t then piece_of Comment (CommentWithoutEnd at) (until (45 ∷ 45 ∷ 62 ∷ []) (drop 3 t)) 6
+    else (if begins_with_mark (33 ∷ 91 ∷ 67 ∷ 68 ∷ 65 ∷ 84 ∷ 65 ∷ 91 ∷ []) t then piece_of Section (SectionWithoutEnd at) (until (93 ∷ 93 ∷ 62 ∷ []) (drop 8 t)) 11
     else piece_of Tag (TagWithoutEnd at) (tag_len t) 0)
 
 -- what `&` begins: a reference, or a fault where it is none
@@ -221,12 +221,12 @@ abbrev pub Opened : Type 0
 Opened = Open × List Sourced
 
 -- whether a piece is the end tag of an element
-abbrev pub ends : Element → Kind → List ℕ → Bool
-ends element Tag t = is_end element t
-ends element (Text c) t = false
-ends element Comment t = false
-ends element Section t = false
-ends element (Reference c) t = false
+abbrev pub closes_element : Element → Kind → List ℕ → Bool
+closes_element element Tag t = is_end_tag element t
+closes_element element (Text c) t = false
+closes_element element Comment t = false
+closes_element element Section t = false
+closes_element element (Reference c) t = false
 
 -- the block that a piece at an offset begins
 abbrev pub opened_by : Kind → ℕ → List ℕ → Option Open
@@ -240,7 +240,7 @@ opened_by (Reference c) at t = None
 abbrev pub behind_piece : Option Opened → Kind → ℕ → List ℕ → Option Opened × List SourcedBlock
 behind_piece None kind at t = (option_map (λ o. (o, [])) (opened_by kind at t), [])
 behind_piece (Some opened) kind at t =
-    if ends (opened.0).element kind t then (None, record { content = opened.1; end = at } ∷ [])
+    if closes_element (opened.0).element kind t then (None, record { content = opened.1; end = at } ∷ [])
     else (Some (opened.0, opened.1 ++ piece_content kind at t), [])
 
 -- what can be read of a draft: the blocks in front of its first fault, and that fault, if it has one
@@ -282,8 +282,8 @@ abbrev pub front_blocks : List ℕ → List SourcedBlock
 front_blocks draft = (element_front None 0 0 draft).blocks
 
 -- the first fault of such a draft, if it has one
-abbrev pub first_fault : List ℕ → Option XmlFault
-first_fault draft = (element_front None 0 0 draft).fault
+abbrev pub first_xml_fault : List ℕ → Option XmlFault
+first_xml_fault draft = (element_front None 0 0 draft).fault
 
 -- blocks, unless there is a fault
 abbrev pub unless_fault : Option XmlFault → List SourcedBlock → Result (List SourcedBlock) XmlFault
@@ -292,11 +292,11 @@ unless_fault (Some fault) bs = Err fault
 
 -- the blocks of ABNF in a draft in RFCXML, or its first fault
 abbrev pub xml_blocks : List ℕ → Result (List SourcedBlock) XmlFault
-xml_blocks draft = unless_fault (first_fault draft) (front_blocks draft)
+xml_blocks draft = unless_fault (first_xml_fault draft) (front_blocks draft)
 
 -- the grammar of the blocks behind some characters, or the fault
 abbrev pub grammar_behind : List Sourced → Result (List SourcedBlock) XmlFault → Result (List Sourced) XmlFault
-grammar_behind front (Ok bs) = Ok (front ++ grammar_of bs)
+grammar_behind front (Ok bs) = Ok (front ++ gathered_grammar bs)
 grammar_behind front (Err fault) = Err fault
 
 -- what is gathered from a draft: the grammar of its blocks or its first fault, unless memory was refused

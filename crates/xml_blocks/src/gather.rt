@@ -2,7 +2,7 @@
 
 ghost use Rattle.std.specs.Prelude.{◌≡◌, ◌<◌, ◌^◌, ◌++◌, List, IfOk, OnOk, length};
 ghost use Rattle.std.specs.Str.{chars};
-ghost use Rattle.origins.specs.Origins.{Sourced, grammar_of};
+ghost use Rattle.origins.specs.Origins.{Sourced, gathered_grammar};
 ghost use Rattle.xml_blocks.specs.own.Reading.{reading_element};
 ghost use Rattle.xml_blocks.specs.Xml as spec;
 
@@ -61,7 +61,7 @@ fn opened_by(kind: Kind, text: &str, at: usize) -> Option<Open>
 
 // Whether a piece is the end tag of an element.
 pub fn ends(element: Element, kind: Kind, text: &str) -> bool
-    ensures { result ≡ spec.ends element kind (chars text.now) }
+    ensures { result ≡ spec.closes_element element kind (chars text.now) }
 {
     match kind {
         Kind::Tag => element.is_end(text),
@@ -80,7 +80,7 @@ fn read(
 ) -> Result<Option<Open>, AllocError>
     requires { at < 2 ^ 63 }
     ensures state { IfOk result (λ next. reading_element next block.new ≡ (spec.behind_piece (reading_element current block.old) kind at (chars text.now)).0) }
-    ensures ended { IfOk result (λ next. grammar.new ≡ grammar.old ++ grammar_of (spec.behind_piece (reading_element current block.old) kind at (chars text.now)).1) }
+    ensures ended { IfOk result (λ next. grammar.new ≡ grammar.old ++ gathered_grammar (spec.behind_piece (reading_element current block.old) kind at (chars text.now)).1) }
 {
     let Some(opened) = current else {
         block.clear();
@@ -111,7 +111,7 @@ fn end_at(
     current: Option<Open>,
     at: usize,
 ) -> Result<(), AllocError>
-    ensures { OnOk result (grammar.new ≡ grammar.old ++ grammar_of (spec.ended_at (reading_element current block.now) at)) }
+    ensures { OnOk result (grammar.new ≡ grammar.old ++ gathered_grammar (spec.ended_at (reading_element current block.now) at)) }
 {
     match current {
         Some(_) => grammar.add_block(block, at),
@@ -136,8 +136,8 @@ pub struct XmlFront {
 ///
 /// Where an allocation is refused.
 pub fn gather_front(alloc: Global, draft: &str) -> Result<XmlFront, AllocError>
-    ensures grammar { IfOk result (λ front. front.grammar ≡ grammar_of (spec.front_blocks (chars draft.now))) }
-    ensures fault { IfOk result (λ front. front.fault ≡ spec.first_fault (chars draft.now)) }
+    ensures grammar { IfOk result (λ front. front.grammar ≡ gathered_grammar (spec.front_blocks (chars draft.now))) }
+    ensures fault { IfOk result (λ front. front.fault ≡ spec.first_xml_fault (chars draft.now)) }
 {
     if draft.len() >= NO_OFFSET {
         return Err(AllocError);

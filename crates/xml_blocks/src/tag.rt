@@ -2,7 +2,7 @@
 
 ghost use Rattle.std.specs.Prelude.{◌≡◌, ◌<◌, ◌^◌, ◌+◌, None, IfSome, length};
 ghost use Rattle.std.specs.Str.{chars};
-ghost use Rattle.xml_blocks.specs.own.Reading.{if_abnf};
+ghost use Rattle.xml_blocks.specs.own.Reading.{element_if_abnf};
 ghost use Rattle.xml_blocks.specs.Unread.{is_start};
 ghost use Rattle.xml_blocks.specs.Xml as spec;
 
@@ -40,7 +40,7 @@ impl Element {
 
     // Whether a start tag without its `<` has this name, with white space behind it.
     fn is_named(self, tag: &str) -> bool
-        ensures { result ≡ spec.is_named self (chars tag.now) }
+        ensures { result ≡ spec.is_tag_of self (chars tag.now) }
     {
         begins(tag, self.name()) && is_space(char_at(tag, self.name_len()))
     }
@@ -55,7 +55,7 @@ impl Element {
 
     // Whether a tag without its `<` is the end tag of this element.
     pub fn is_end(self, tag: &str) -> bool
-        ensures { result ≡ spec.is_end self (chars tag.now) }
+        ensures { result ≡ spec.is_end_tag self (chars tag.now) }
     {
         let name = behind(tag, 1);
         char_at(tag, 0) == '/'
@@ -181,7 +181,7 @@ pub fn is_empty_element(tag: &str) -> bool
 
 // This element of a tag without its `<`, if its `type` is `abnf`.
 fn if_abnf(tag: &str, element: Element) -> Option<Element>
-    ensures { result ≡ if_abnf (chars tag.now) element }
+    ensures { result ≡ element_if_abnf (chars tag.now) element }
 {
     if has_abnf_type(tag) {
         Some(element)

@@ -96,7 +96,7 @@ pub fn char_at(text: &str, index: usize) -> char
 
 // Whether a text begins with a mark.
 pub fn begins(text: &str, mark: &[char]) -> bool
-    ensures { result ≡ spec.begins mark.now (chars text.now) }
+    ensures { result ≡ spec.begins_with_mark mark.now (chars text.now) }
 {
     let mut rest = text;
     let mut left = mark;

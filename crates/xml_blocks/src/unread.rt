@@ -221,7 +221,7 @@ fn read_unmarked(
     at: usize,
 ) -> Result<(Option<Held>, Option<Aside>), AllocError>
     requires { at < 2 ^ 63 }
-    ensures { IfOk result (λ next. (next.0, content.new, next.1) ≡ spec.behind (Some (Held.Unmarked opened)) content.old kind at (chars text.now)) }
+    ensures { IfOk result (λ next. (next.0, content.new, next.1) ≡ spec.open_behind (Some (Held.Unmarked opened)) content.old kind at (chars text.now)) }
 {
     if ends(opened.element, kind, text) {
         let aside = untyped(alloc, opened, content, at)?;
@@ -247,7 +247,7 @@ fn read(
     at: usize,
 ) -> Result<(Option<Held>, Option<Aside>), AllocError>
     requires { at < 2 ^ 63 }
-    ensures { IfOk result (λ next. (next.0, content.new, next.1) ≡ spec.behind current content.old kind at (chars text.now)) }
+    ensures { IfOk result (λ next. (next.0, content.new, next.1) ≡ spec.open_behind current content.old kind at (chars text.now)) }
 {
     let (next, unread) = match current {
         Some(Held::Unmarked(opened)) => {
@@ -285,7 +285,7 @@ fn put_aside(found: &mut Vec<Aside>, aside: Option<Aside>) -> Result<(), AllocEr
 ///
 /// [`XmlFault::Memory`] alone, where an allocation is refused.
 pub fn unread_blocks(alloc: Global, draft: &str) -> Result<Vec<Aside>, XmlFault>
-    ensures found { IfOk result (λ found. found.items ≡ spec.unread_blocks (chars draft.now)) }
+    ensures found { IfOk result (λ found. found.items ≡ spec.unread_elements (chars draft.now)) }
     ensures memory { IfErr result (λ fault. fault ≡ XmlFault.Memory) }
 {
     if draft.len() >= NO_OFFSET {

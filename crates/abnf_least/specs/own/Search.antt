@@ -34,8 +34,8 @@ abbrev pub IsNextPart : (ℕ → Form) → (ℕ → Entry) → ℕ → ℕ → T
 IsNextPart form at l h = (k : ℕ) → at k ≡ Nothing → NotBefore l h (entry_given at (form k))
 
 -- no part is given an entry any more
-abbrev pub IsDone : (ℕ → Form) → (ℕ → Entry) → Type 0
-IsDone form at = (k : ℕ) → at k ≡ Nothing → entry_given at (form k) ≡ Nothing
+abbrev pub IsExhausted : (ℕ → Form) → (ℕ → Entry) → Type 0
+IsExhausted form at = (k : ℕ) → at k ≡ Nothing → entry_given at (form k) ≡ Nothing
 
 -- part n with this pair of a length and a height
 abbrev pub candidate : ℕ → ℕ → ℕ → Candidate
@@ -50,7 +50,7 @@ abbrev pub AllWait : (ℕ → Form) → (ℕ → Entry) → List Candidate → T
 AllWait form at queue = (k l h d : ℕ) → at k ≡ Nothing → entry_given at (form k) ≡ Least l h d → Contains queue (candidate l h k)
 
 -- the candidate isn't settled, and has the pair that it is given
-pub record IsGiven (form : ℕ → Form) (table : List Entry) (x : Candidate) : Type 0 where
+pub record HasGivenPair (form : ℕ → Form) (table : List Entry) (x : Candidate) : Type 0 where
   pub within : x.number < length table
   pub waits : entry_at table x.number ≡ Nothing
   pub choice : ℕ
@@ -58,7 +58,7 @@ pub record IsGiven (form : ℕ → Form) (table : List Entry) (x : Candidate) : 
 
 -- the candidate isn't settled and has the pair that it is given, no other part is given one before it, and all others wait
 pub record IsFound (form : ℕ → Form) (table : List Entry) (x : Candidate) (queue : List Candidate) : Type 0 where
-  pub is_given : IsGiven form table x
+  pub is_given : HasGivenPair form table x
   pub first : IsNextPart form (entry_at table) x.length x.height
   pub others : OthersWait (λ k. k ≡ x.number → ⊥) form (entry_at table) queue
 

@@ -62,16 +62,16 @@ leaf_text (Span low high) = low ∷ []
 leaf_text _ = []
 
 -- where a part stands in the text that is written, if it was written before
-abbrev pub Place : Type 0
-Place = Option (ℕ × ℕ)
+abbrev pub WrittenPlace : Type 0
+WrittenPlace = Option (ℕ × ℕ)
 
 -- the place lies in a text of so many characters
-abbrev pub LiesWithin : ℕ → Place → Type 0
+abbrev pub LiesWithin : ℕ → WrittenPlace → Type 0
 LiesWithin count None = Unit {0}
 LiesWithin count (Some x) = (x.0 ≤ x.1) × (x.1 ≤ count)
 
 -- each of these places lies in a text of so many characters
-abbrev pub AllLieWithin : ℕ → List Place → Type 0
+abbrev pub AllLieWithin : ℕ → List WrittenPlace → Type 0
 AllLieWithin count places = (n : ℕ) → LiesWithin count (slice_index_or places n None)
 
 -- the node is that of part n
@@ -94,11 +94,11 @@ module _ (roots : List Part) (at : ℕ → Entry) where
       × (ts' ≡ work_after at (root_number roots) node (choice_of (at n)) (End n (length w) ∷ ts)) × (w' ≡ w ++ leaf_text node)
 
   -- A part that was written before is copied from there.
-  abbrev pub WritesPart : ℕ → Place → List Task → List ℕ → List Place → List Task → List ℕ → List Place → Type 0
+  abbrev pub WritesPart : ℕ → WrittenPlace → List Task → List ℕ → List WrittenPlace → List Task → List ℕ → List WrittenPlace → Type 0
   WritesPart n None ts w ps ts' w' ps' = Expands n ts w ts' w' × (ps' ≡ ps)
   WritesPart n (Some x) ts w ps ts' w' ps' = (ts' ≡ ts) × (w' ≡ w ++ slice_range w x.0 x.1) × (ps' ≡ ps)
 
   -- what a task does to the work that is left, the text and the places
-  abbrev pub Does : Task → List Task → List ℕ → List Place → List Task → List ℕ → List Place → Type 0
+  abbrev pub Does : Task → List Task → List ℕ → List WrittenPlace → List Task → List ℕ → List WrittenPlace → Type 0
   Does (Write n) ts w ps ts' w' ps' = WritesPart n (slice_index_or ps n None) ts w ps ts' w' ps'
   Does (End n start) ts w ps ts' w' ps' = (ts' ≡ ts) × (w' ≡ w) × (ps' ≡ slice_set ps n (Some (start, length w)))

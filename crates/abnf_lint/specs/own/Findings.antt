@@ -26,8 +26,8 @@ abbrev pub has_name : List Name → Name → Bool
 has_name names name = is_some (rule_number names name)
 
 -- what is known of a head, where blocks before its own have heads with these names, and `=` blocks among them with those of `bases`
-abbrev pub head_told : List Bool → List Name → List Name → List Name → Head → HeadTold
-head_told marks names heads bases head =
+abbrev pub known_of_head : List Bool → List Name → List Name → List Name → Head → HeadTold
+known_of_head marks names heads bases head =
     let name = name_of head in
     record {
       is_duplicate = not head.adds && has_name bases name;
@@ -37,7 +37,7 @@ head_told marks names heads bases head =
 
 -- what is found of a block, where earlier blocks have heads with these names
 abbrev pub block_findings : List Bool → List Name → List Name → List Name → Excerpt → List Finding
-block_findings marks names heads bases block = block_found (head_told marks names heads bases) (is_none_of names) block.items block.fault
+block_findings marks names heads bases block = block_found (known_of_head marks names heads bases) (is_none_of names) block.items block.fault
 
 -- the names that `=` blocks define
 abbrev pub based : List Block → List Name

@@ -34,8 +34,8 @@ abbrev pub seen_of : List Name → List Name → Name → Seen
 seen_of heads bases name = record { is_head = has_name heads name; is_base = has_name bases name }
 
 -- beside each rule stands what the blocks say of its name
-abbrev pub AreSeen : List Name → List Name → List Name → List Seen → Type 0
-AreSeen names heads bases seen = (name : Name) (r : ℕ) → rule_number names name ≡ Some r → slice_get seen r ≡ Some (seen_of heads bases name)
+abbrev pub HaveSeen : List Name → List Name → List Name → List Seen → Type 0
+HaveSeen names heads bases seen = (name : Name) (r : ℕ) → rule_number names name ≡ Some r → slice_get seen r ≡ Some (seen_of heads bases name)
 
 -- what blocks say of a name, with one more head of it
 abbrev pub seen_more : Seen → Head → Seen

@@ -16,7 +16,7 @@ use Rattle.abnf_names.specs.Rules.{adds, alternatives_said, defined, fault_place
 use Rattle.abnf_names.specs.Excerpts.{Excerpt, excerpt, excerpt_of}
 use Rattle.abnf_names.specs.Sections.{IsSaidBy}
 use Rattle.abnf_syntax.specs.Heads.{head_of}
-use Rattle.abnf_names.specs.declared.own.NamesOfText.{NamesOfText}
+use Rattle.abnf_names.specs.declared.text_names.NamesOfText.{NamesOfText}
 use Rattle.abnf_names.specs.declared.rules.Rules.{Rules}
 use Rattle.abnf_parts.specs.Nodes.{trees_at}
 use Rattle.abnf_parts.specs.Pushed.{AddsTrees}
@@ -38,16 +38,16 @@ abbrev pub is_addition : List Item → Bool
 is_addition items = option_map_or (λ head. head.adds) (head_of items) false
 
 -- whether `=/` follows the name at a block's head, and what the block says
-pub record Definition : Type 0 where
+pub record HeadSaid : Type 0 where
   pub adds : Bool
   pub said : Result Rule SyntaxFault
 
 -- of a block whether it adds to its name, and what it says
-abbrev pub definition_of : Block → Definition
+abbrev pub definition_of : Block → HeadSaid
 definition_of block = record { adds = adds block; said = block.said }
 
 -- the section's block says this of its name
-pub record IsToldDefinition (section : Section) (definition : Definition) : Type 0 where
+pub record IsToldDefinition (section : Section) (definition : HeadSaid) : Type 0 where
   pub adds : is_addition section.block.items ≡ definition.adds
   pub said : IsSaidBy section definition.said
 
@@ -58,28 +58,28 @@ AreBeside R (x ∷ xs) (y ∷ ys) = R x y × AreBeside R xs ys
 AreBeside R _ _ = ⊥
 
 -- the sections' blocks say these definitions
-abbrev pub AreTold : List Listed → List Definition → Type 0
+abbrev pub AreTold : List Listed → List HeadSaid → Type 0
 AreTold sections definitions = AreBeside (λ listed definition. IsToldDefinition listed.section.now definition) sections definitions
 
 -- name by name the sections' blocks say these definitions
-abbrev pub AllTold : List (List Listed) → List (List Definition) → Type 0
+abbrev pub AllTold : List (List Listed) → List (List HeadSaid) → Type 0
 AllTold own definitions = AreBeside AreTold own definitions
 
 -- the definition adds to its name
-abbrev pub is_adding : Definition → Bool
+abbrev pub is_adding : HeadSaid → Bool
 is_adding d = d.adds
 
 -- of a name's definitions those that count: the first that doesn't add, and all that add
-abbrev pub counted_among : List Definition → List Definition
+abbrev pub counted_among : List HeadSaid → List HeadSaid
 counted_among [] = []
 counted_among (d ∷ ds) = d ∷ (if is_adding d then counted_among ds else filter is_adding ds)
 
 -- the alternatives that a definition says
-abbrev pub alternatives_of : (Name → Option ℕ) → Definition → List Part
+abbrev pub alternatives_of : (Name → Option ℕ) → HeadSaid → List Part
 alternatives_of number d = alternatives_said number d.said
 
 -- the rule whose name has these definitions
-abbrev pub tree_of : (Name → Option ℕ) → List Definition → Part
+abbrev pub tree_of : (Name → Option ℕ) → List HeadSaid → Part
 tree_of number definitions = alt (parts (flat_map (alternatives_of number) (counted_among definitions)))
 
 -- Names, and beside each the things that were put under it.
@@ -149,7 +149,7 @@ pub record HasBlocks (sections : List Section) (found : NamesOfText) : Type 0 wh
   pub are : AreRead sections found blocks
 
 -- the rules of these blocks
-pub record AreRules (blocks : List Block) (rules : Rules) : Type 0 where
+pub record AreRulesOf (blocks : List Block) (rules : Rules) : Type 0 where
   pub names : AreNames blocks rules.names
   pub nodes : AddsTrees (rules_of blocks) [] rules.nodes.items [] rules.roots.items
   pub reaching : AreReaching (trees_at rules.nodes.items rules.roots.items) rules.opaque.items

@@ -7,9 +7,9 @@ use Rattle.abnf_token.specs.declared.token.Token.{Token}
 use Rattle.abnf_token.specs.Classes.{Text}
 use Rattle.abnf_token.specs.Tokens.{view}
 use Rattle.abnf_syntax.specs.declared.block.Head.{Head}
-use Rattle.abnf_syntax.specs.declared.ends.Front.{Front}
-use Rattle.abnf_syntax.specs.declared.ends.Front.TheVariants.{Nothing, One, Two}
-use Rattle.abnf_syntax.specs.Kinds.{is_item, is_name, is_defined_as, is_adds}
+use Rattle.abnf_syntax.specs.declared.ends.FirstItems.{FirstItems}
+use Rattle.abnf_syntax.specs.declared.ends.FirstItems.TheVariants.{Nothing, One, Two}
+use Rattle.abnf_syntax.specs.Kinds.{is_item, is_name_kind, is_defined_as, is_adds}
 use Rattle.abnf_syntax.specs.Items.{AreTokens}
 
 -- what a token says, but for the address of its text
@@ -38,19 +38,19 @@ pub record AreSeen (ls : List Text) (first end : ℕ) (seen : List View) : Type 
   pub seen_are : seen ≡ flat_map items_among tokens
 
 -- what the first items say, of which there are none, one or two
-abbrev pub front_views : Front → List View
+abbrev pub front_views : FirstItems → List View
 front_views Nothing = []
 front_views (One first) = view first ∷ []
 front_views (Two first second) = view first ∷ view second ∷ []
 
 -- two items are there, so more change nothing
-abbrev pub is_full : Front → Bool
+abbrev pub is_full : FirstItems → Bool
 is_full (Two first second) = true
 is_full _ = false
 
 -- the head of a block that begins with these two items
 abbrev pub head_with : Token → Token → Option Head
-head_with first second = if is_name first.kind && is_defined_as second.kind then Some (record { name = first; adds = is_adds second.kind }) else None
+head_with first second = if is_name_kind first.kind && is_defined_as second.kind then Some (record { name = first; adds = is_adds second.kind }) else None
 
 -- what a head says, but for the address of its name
 abbrev pub head_view : Head → View × Bool
@@ -58,5 +58,5 @@ head_view head = (view head.name, head.adds)
 
 -- the head of items that say this
 abbrev pub head_seen : List View → Option (View × Bool)
-head_seen (first ∷ second ∷ seen) = if is_name first.0 && is_defined_as second.0 then Some (first, is_adds second.0) else None
+head_seen (first ∷ second ∷ seen) = if is_name_kind first.0 && is_defined_as second.0 then Some (first, is_adds second.0) else None
 head_seen _ = None

@@ -20,12 +20,12 @@ options =
     ∷ []
 
 -- a text with one more line
-abbrev pub with_line : List ℕ → List ℕ → List ℕ
-with_line text line = text ++ (line ++ 10 ∷ [])
+abbrev pub with_help_line : List ℕ → List ℕ → List ℕ
+with_help_line text line = text ++ (line ++ 10 ∷ [])
 
 -- these lines, each with its end
 abbrev pub with_lines : List (List ℕ) → List ℕ
-with_lines lines = fold with_line [] lines
+with_lines lines = fold with_help_line [] lines
 
 -- the line of usage, and a line for each option
 abbrev pub help : List ℕ

@@ -7,11 +7,11 @@ use Rattle.ls_answers.specs.declared.in_grammar.GrammarAsk.{GrammarAsk}
 use Rattle.ls_answers.specs.declared.in_grammar.GrammarAsk.TheVariants as grammar
 
 -- the same question among all questions
-abbrev pub asked : GrammarAsk → Ask
-asked (grammar.Hover at) = ask.Hover at
-asked (grammar.Rename at new) = ask.Rename at new.now
-asked (grammar.Action range) = ask.Action range
-asked grammar.Tokens = ask.Tokens
+abbrev pub as_ask : GrammarAsk → Ask
+as_ask (grammar.Hover at) = ask.Hover at
+as_ask (grammar.Rename at new) = ask.Rename at new.now
+as_ask (grammar.Action range) = ask.Action range
+as_ask grammar.Tokens = ask.Tokens
 
 -- a rename is asked to what is a name
 abbrev pub IsToAName : GrammarAsk → Type 0

@@ -4,7 +4,7 @@ use Rattle.ls_machine.specs.declared.event.Event.{Event}
 use Rattle.ls_machine.specs.declared.state.State.{State}
 
 -- what contracts see of the place that holds a desk's journal
-pub record Held : Type 0 where
+pub record HeldJournal : Type 0 where
   -- the events since the base
   pub items : List Event
   -- for how many events there is room, and for how many in the journal that comes next
@@ -14,6 +14,6 @@ pub record Held : Type 0 where
   pub ended : List Event
 
 -- for how many events there is room in the journal as it is, or in the next one, where it begins anew from a state
-abbrev pub room_after : Option State → Held → ℕ
+abbrev pub room_after : Option State → HeldJournal → ℕ
 room_after None journal = journal.room
 room_after (Some state) journal = journal.next

@@ -3,8 +3,8 @@ use Rattle.std.specs.Prelude.{◌≡◌, ℕ, ◌-◌, ◌<◌, ◌≤◌, List,
 use Rattle.std.specs.declared.alloc.AllocError.{AllocError}
 use Rattle.ls_frame.specs.Frames.{Frames, IsFrame, HasNoFrame}
 use Rattle.ls_frame.specs.Faults.{fault_of}
-use Rattle.ls_frame.specs.declared.front.Front.{Front}
-use Rattle.ls_frame.specs.declared.front.Front.TheVariants.{Rest as Behind, Frame}
+use Rattle.ls_frame.specs.declared.front.AtFront.{AtFront}
+use Rattle.ls_frame.specs.declared.front.AtFront.TheVariants.{Rest as Behind, Frame}
 use Rattle.ls_frame.specs.declared.front.Taken.{Taken}
 use Rattle.ls_frame.specs.declared.front.Rest.{Rest}
 use Rattle.ls_frame.specs.declared.front.Rest.TheVariants.{Open, Faulty}
@@ -23,7 +23,7 @@ RestIs bytes (Open wanted) = IsQuiet bytes × IsQuietBelow bytes wanted
 RestIs bytes (Faulty fault) = (fault_of bytes ≡ Some fault) × HasNoFrame bytes
 
 -- what the bytes begin with
-abbrev pub FrontIs : List ℕ → Front → Type 0
+abbrev pub FrontIs : List ℕ → AtFront → Type 0
 FrontIs bytes (Behind rest) = RestIs bytes rest
 FrontIs bytes (Frame from end) = (0 < end) × (from ≤ end) × (end ≤ length bytes) × IsFrame (take end bytes) (take (end - from) (drop from bytes))
 

@@ -2,16 +2,16 @@
 use Rattle.std.specs.Prelude.{◌≡◌, ◌==◌, ◌++◌, ◌∷◌, ℕ, true, List, [], length, MatchBool}
 use Rattle.logbook.specs.Pages.{Cell, Step, View, Book, Named}
 use Rattle.ls_history.specs.declared.history_entry.HistoryEntry.{HistoryEntry}
-use Rattle.ls_history.specs.History.{IsLegal}
+use Rattle.ls_history.specs.History.{IsLegalHistory}
 
 -- The first word is the length of the history, which is legal. The second isn't used.
-pub record IsKept (cells : List Cell) (log : List HistoryEntry) : Type 0 where
+pub record IsLogKept (cells : List Cell) (log : List HistoryEntry) : Type 0 where
   pub words : cells ≡ (length log, true) ∷ (0, true) ∷ []
-  pub legal : IsLegal log
+  pub legal : IsLegalHistory log
 
 -- the book's first word
-abbrev pub head_of : Book → Named
-head_of b = record { tracked = true; key = 0; book = b }
+abbrev pub first_word : Book → Named
+first_word b = record { tracked = true; key = 0; book = b }
 
 -- The entry was added to all that had been seen, which was so long, where the word was found to be that length; else nothing is said.
 abbrev pub Adds : Step HistoryEntry → View HistoryEntry ℕ → ℕ → View HistoryEntry ℕ → Type 0

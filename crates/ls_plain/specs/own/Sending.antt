@@ -2,7 +2,7 @@
 use Rattle.std.specs.Prelude.{ℕ, true, List, [], ◌∷◌, Option, Result, Ok, Err}
 use Rattle.std.specs.Io.KnownBytes.{Appends}
 use Rattle.ls_steps.specs.Runs.{Going, Runs, Steps, send}
-use Rattle.ls_steps.specs.Plain.{Replies, times}
+use Rattle.ls_steps.specs.Plain.{Replies, many_times}
 use Rattle.ls_devices.specs.Devices.{AppendsPrefix}
 use Rattle.ls_devices.specs.declared.fault.ServeFault.{ServeFault}
 use Rattle.ls_devices.specs.declared.fault.ServeFault.TheVariants.{Read, Write, Strayed, Memory}
@@ -11,7 +11,7 @@ use Rattle.ls_devices.specs.declared.fault.ServeFault.TheVariants.{Read, Write, 
 pub record SomeSent (state now : Going) (old new : Option (List ℕ)) : Type 0 where
   pub replies : ℕ
   pub bytes : List ℕ
-  pub sent : Runs true state (times replies (send ∷ [])) now bytes
+  pub sent : Runs true state (many_times replies (send ∷ [])) now bytes
   pub written : Appends old new bytes
 
 -- Some replies have left and are written, and one more has left, of whose frame a prefix is written.

@@ -1,7 +1,7 @@
 -- How the lines of a draft are read, one after another. No public contract cites this.
 use Rattle.std.specs.Prelude.{ℕ, suc, Bool, List, [], ◌∷◌, ◌++◌, flat_map, take, if◌then◌else◌}
 use Rattle.ls_text.specs.Lines.{ends_line}
-use Rattle.origins.specs.Origins.{Sourced, SourcedBlock, grammar_of}
+use Rattle.origins.specs.Origins.{Sourced, SourcedBlock, gathered_grammar}
 use Rattle.origins.specs.declared.unread.Aside.{Aside}
 use Rattle.markdown_blocks.specs.Fences.{without_end}
 use Rattle.markdown_blocks.specs.Unread.{Fenced, block_asides}
@@ -30,4 +30,4 @@ Finds = Bool × List Sourced × List Aside
 -- what is found, and then these blocks
 abbrev pub with_blocks : Finds → List Fenced → Finds
 with_blocks found bs =
-    (found.0, (if found.0 then found.1 else found.1 ++ grammar_of (abnf_of bs)), (if found.0 then found.2 ++ flat_map block_asides bs else found.2))
+    (found.0, (if found.0 then found.1 else found.1 ++ gathered_grammar (abnf_of bs)), (if found.0 then found.2 ++ flat_map block_asides bs else found.2))

@@ -2,7 +2,7 @@
 use Rattle.std.specs.Prelude.{◌≡◌, ℕ, Bool, nat_lt, ◌⊎◌, Option, Some, None, List, ◌++◌, if◌then◌else◌}
 use Rattle.std.specs.Option.{option_map}
 use Rattle.std.specs.List.{prefix_len}
-use Rattle.origins.specs.Origins.{Sourced, grammar_of}
+use Rattle.origins.specs.Origins.{Sourced, gathered_grammar}
 use Rattle.xml_blocks.specs.declared.fault.XmlFault.{XmlFault}
 use Rattle.xml_blocks.specs.declared.gather.Open.{Open}
 use Rattle.xml_blocks.specs.declared.piece.Kind.TheVariants.{Text}
@@ -16,7 +16,7 @@ reading_element current content = option_map (λ o. (o, content)) current
 
 -- what is gathered behind some characters by what is read, and the fault
 abbrev pub front_behind : List Sourced → Front → List Sourced × Option XmlFault
-front_behind grammar front = (grammar ++ grammar_of front.blocks, front.fault)
+front_behind grammar front = (grammar ++ gathered_grammar front.blocks, front.fault)
 
 -- a decimal or a hexadecimal number
 abbrev pub IsBase : ℕ → Type 0
@@ -27,8 +27,8 @@ abbrev pub is_low : ℕ → Bool
 is_low b = nat_lt b 128
 
 -- an element of a tag without its `<`, if the attribute `type` is `abnf`
-abbrev pub if_abnf : List ℕ → Element → Option Element
-if_abnf t element = if has_abnf_type None t then Some element else None
+abbrev pub element_if_abnf : List ℕ → Element → Option Element
+element_if_abnf t element = if has_abnf_type None t then Some element else None
 
 -- a piece, if it is text, has all characters behind its first one that begin no markup, and in a block no reference
 abbrev pub IsPieceOf : Bool → Piece → List ℕ → Type 0

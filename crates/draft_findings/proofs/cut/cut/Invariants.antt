@@ -5,5 +5,5 @@ use Rattle.draft_findings.proofs.cut.cut.Given as goal
 abbrev pub invariant-loop-end : goal.invariant-loop-end
 invariant-loop-end l = record {
   within : l.at ≤ length l.all;
-  told : l.kept ++ spec.cut (drop l.end-index l.ends) (drop l.at l.all) ≡ spec.cut l.ends l.all;
+  told : l.kept ++ spec.cut_at (drop l.end-index l.ends) (drop l.at l.all) ≡ spec.cut_at l.ends l.all;
 }

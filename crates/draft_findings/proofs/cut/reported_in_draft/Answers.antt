@@ -10,4 +10,4 @@ returns-then-fault_count-le-MOST_FAULTS c =
     let all : c.as_slice.result.now ≡ c.in_ok-all.all = search rules in
     let le : count_by spec.is_fault c.in_ok-all.all ≤ 10 = omega (arith, c.if-fault_count-le-MOST_FAULTS.true, c.fault_count.ensures, ap (count_by spec.is_fault) all) in
     sym (few (ends.block_ends c.args.draft.now c.args.grammar.now) c.in_ok-all.all le)
-    ∙ ap (spec.cut (ends.block_ends c.args.draft.now c.args.grammar.now)) c.in_ok-all.ensures
+    ∙ ap (spec.cut_at (ends.block_ends c.args.draft.now c.args.grammar.now)) c.in_ok-all.ensures

@@ -2,7 +2,7 @@ use Rattle.std.proofs.Common.{◌≡◌, ◌∙◌, ◌+◌, ◌++◌, ◌∷◌
 use Rattle.std.proofs.lemmas.List.{take_more}
 use Rattle.origins.specs.Origins.{characters}
 use Rattle.origins.specs.declared.unread.Unread.{Unread}
-use Rattle.findings_files.specs.Contents.{AreSaid, IsSaid}
+use Rattle.findings_files.specs.Contents.{AreRemarked, IsSaid}
 use Rattle.findings_files.proofs.ContentLaws.{said_more}
 use Rattle.findings_files.proofs.content.said.Goals as goal
 use Rattle.findings_files.proofs.content.said.Goals.{else-branch, then-branch+in_ok-put}
@@ -20,10 +20,10 @@ loop-aside-preserved c =
     elim c.if-branch.branch [
       | then-branch+in_ok-put w ↦
           let is = subst (λ b. IsSaid aside.unread.lack (characters aside.text) b) w.if-branch.true says in
-          let are : AreSaid (before ++ aside ∷ []) (c.loop-aside.said ++ aside.unread ∷ []) = said_more before aside true c.loop-aside.said was is in
+          let are : AreRemarked (before ++ aside ∷ []) (c.loop-aside.said ++ aside.unread ∷ []) = said_more before aside true c.loop-aside.said was is in
           rw (next, w.said-is, w.in_ok-put.ensures.put) are
       | else-branch w ↦
           let is = subst (λ b. IsSaid aside.unread.lack (characters aside.text) b) w.if-branch.false says in
-          let are : AreSaid (before ++ aside ∷ []) (c.loop-aside.said ++ []) = said_more before aside false c.loop-aside.said was is in
-          rw (next, w.said-is) (subst (λ (said : List Unread). AreSaid (before ++ aside ∷ []) said) (append-nil c.loop-aside.said) are)
+          let are : AreRemarked (before ++ aside ∷ []) (c.loop-aside.said ++ []) = said_more before aside false c.loop-aside.said was is in
+          rw (next, w.said-is) (subst (λ (said : List Unread). AreRemarked (before ++ aside ∷ []) said) (append-nil c.loop-aside.said) are)
     ]

@@ -5,7 +5,7 @@ use Rattle.origins.specs.declared.unread.Unread.{Unread}
 use Rattle.draft_findings.specs.Reports.{Remarked}
 use Rattle.findings_text.specs.Print.{begin_of, finding_line, line_of_finding}
 use Rattle.findings_text.specs.Sources.{asides_in, located}
-use Rattle.findings_text.specs.Unread.{ahead, unread_lines}
+use Rattle.findings_text.specs.Unread.{count_before, unread_lines}
 use Rattle.findings_text.proofs.UnreadLaws.{line_put}
 use Rattle.findings_text.proofs.print.lines_of.Goals as goal
 
@@ -31,7 +31,7 @@ loop-one-preserved c =
       text = at.same ∙ c.loop-one.invariant.text;
       told = line_put file place begin (finding_line (located source text) kept names file text) lines left (drop index told) c.loop-one.invariant.told
           r (drop (index + 1) told) front (string_bytes c.push_line.new.lines) c.in_ok-left.left.now next
-          (c.in_ok-left.ensures.lines ∙ ap (λ (p : Position). lines ++ unread_lines file place (take (ahead place p left) left)) at.begin)
+          (c.in_ok-left.ensures.lines ∙ ap (λ (p : Position). lines ++ unread_lines file place (take (count_before place p left) left)) at.begin)
           (c.in_ok-push_line.ensures ∙ (λ i. front ++ line_of_finding (map (λ name. name.now) (c.as_slice-names.ensures i)) file (at.begin i) (at.original i) (at.hint i) r))
-          (c.in_ok-left.ensures.left ∙ ap (λ (p : Position). drop (ahead place p left) left) at.begin);
+          (c.in_ok-left.ensures.left ∙ ap (λ (p : Position). drop (count_before place p left) left) at.begin);
     }

@@ -2,7 +2,7 @@ use mir.Val.{to_z, of_z}
 use Rattle.std.proofs.Common.{◌≡◌, ◌∙◌, sym, ap, rules, w64}
 use Rattle.std.specs.Prelude.{Some}
 use Rattle.ls_machine.specs.Outs.{entry_for, job_of_run}
-use Rattle.ls_machine.specs.declared.state.Entry.TheVariants.{Outcome}
+use Rattle.ls_machine.specs.declared.state.OutboxEntry.TheVariants.{Outcome}
 use Rattle.ls_machine.proofs.copies.entry_for.Goals as goal
 
 pub returns-in_ok-job_of-in-Replied : goal.returns-in_ok-job_of-in-Replied

@@ -3,8 +3,8 @@ use Rattle.std.specs.Str.{chars}
 use Rattle.std.proofs.lemmas.Str.{encodes-chars}
 use Rattle.published_blocks.specs.declared.found.Published.{Published}
 use Rattle.published_blocks.specs.declared.reading.Reading.{Reading}
-use Rattle.published_blocks.specs.Lines.{kind_of}
-use Rattle.published_blocks.specs.Runs.{behind_line}
+use Rattle.published_blocks.specs.Lines.{line_kind}
+use Rattle.published_blocks.specs.Runs.{read_behind}
 use Rattle.published_blocks.specs.own.Reads.{IsReadUpTo}
 use Rattle.published_blocks.proofs.FoundLaws.{none_of, read_last, read_next, read_none, refused_last, refused_next}
 use Rattle.published_blocks.proofs.gather.gather_published.Goals as goal
@@ -23,7 +23,7 @@ loop-at-preserved c =
     elim c.match-line.branch [
       | in-Some+in-Ok w ↦
           let line = w.in-Some.line.now in
-          let is = w.reading-is ∙ w.in-Ok.ensures.reading ∙ ap (λ begin. behind_line (kind_of old.behind_feed line) begin (chars line) old) w.start_of-begin.ensures.start in
+          let is = w.reading-is ∙ w.in-Ok.ensures.reading ∙ ap (λ begin. read_behind (line_kind old.behind_feed line) begin (chars line) old) w.start_of-begin.ensures.start in
           subst (λ (found : Published). IsReadUpTo text (at + 1) c.match-line.reading found) (sym w.found-is)
           (read_next text at old c.match-line.reading c.loop-at.found w.read_line.new.found line (chars line) c.loop-at.invariant
           (sym (encodes-chars line w.in-Some.ensures.utf8)) (sym w.in-Some.ensures.characters) is w.in-Ok.ensures.found)

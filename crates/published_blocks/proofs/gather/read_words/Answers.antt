@@ -4,7 +4,7 @@ use Rattle.std.proofs.lemmas.Str.{encodes-chars}
 use Rattle.published_blocks.specs.declared.line.Kind.TheVariants.{Words}
 use Rattle.published_blocks.specs.declared.found.Published.{Published}
 use Rattle.published_blocks.specs.declared.reading.Reading.{Reading}
-use Rattle.published_blocks.specs.Runs.{ended_by}
+use Rattle.published_blocks.specs.Runs.{run_ended_by}
 use Rattle.published_blocks.specs.own.Reads.{AddsRuns}
 use Rattle.published_blocks.proofs.FoundLaws.{begun, found_none, found_one, gone_on, refused_one}
 use Rattle.published_blocks.proofs.gather.read_words.Goals as goal
@@ -31,8 +31,8 @@ returns-clause-found c =
     let line = chars c.args.line.now in
     let bytes = c.as_bytes.ensures.value ∙ sym (encodes-chars c.args.line.now c.utf8.line) in
     elim c.if-not-goes_on.branch [
-      | then-not-goes_on+in-Ok w ↦ subst (λ (new : Published). AddsRuns (ended_by Words line old) c.args.found.now new) (sym w.found-is)
+      | then-not-goes_on+in-Ok w ↦ subst (λ (new : Published). AddsRuns (run_ended_by Words line old) c.args.found.now new) (sym w.found-is)
           (found_one old c.args.begin c.as_bytes.result.now line bytes c.args.found.now w.end_run.new.found (sym c.goes_on.ensures ∙ w.if-not-goes_on.true) w.in-Ok.ensures.found)
-      | else-not-goes_on w ↦ subst (λ (new : Published). AddsRuns (ended_by Words line old) c.args.found.now new) (sym w.found-is)
+      | else-not-goes_on w ↦ subst (λ (new : Published). AddsRuns (run_ended_by Words line old) c.args.found.now new) (sym w.found-is)
           (found_none old c.args.begin c.as_bytes.result.now line bytes c.args.found.now (sym c.goes_on.ensures ∙ w.if-not-goes_on.false))
     ]

@@ -2,7 +2,7 @@ use Rattle.std.proofs.Common.{◌≡◌, Bool, false, None, refl, rules}
 use Rattle.std.specs.Prelude.{not, nat_le}
 use Rattle.ls_machine.specs.Machine.{id_waits, is_open, requests}
 use Rattle.ls_machine.specs.declared.event.DeskFault.TheVariants.{NotOpen, TooManyWaiting, IdInUse, SessionFull}
-use Rattle.ls_desk.specs.Faults.{is_full, or_else}
+use Rattle.ls_desk.specs.Faults.{is_session_full, or_else}
 use Rattle.ls_desk.specs.Stands.{state_of}
 use Rattle.ls_desk.proofs.desk.Desk.asked.Goals as goal
 
@@ -28,7 +28,7 @@ returns-clause-none c =
     let closed : not (is_open c.args.uri.now (state_of d).documents) ≡ false = search rules in
     let many : nat_le 1024 (requests (state_of d).waiting) ≡ false = search rules in
     let used : id_waits c.args.id.now (state_of d).waiting ≡ false = search rules in
-    let full : is_full d 1 ≡ false = search rules in
+    let full : is_session_full d 1 ≡ false = search rules in
     none_holds _ _ _ _ closed many used full
 
 pub returns-clause-possible : goal.returns-clause-possible

@@ -1,5 +1,5 @@
 use Rattle.std.proofs.Common.{◌≡◌, sym, ◌∙◌, ap, length, rules}
-use Rattle.ls_history.specs.History.{MayHappen, replay}
+use Rattle.ls_history.specs.History.{MayHappen, replay_entries}
 use Rattle.ls_history.specs.Places.{beginning}
 use Rattle.ls_history.proofs.Adding.{adds_moves}
 use Rattle.ls_history.proofs.book.Front.try_add.Goals as goal
@@ -12,7 +12,7 @@ compare_exchange-found-requires g c =
     let inside = c.self.inside in
     let again = c.again-seen.ensures in
     let book : c.again-seen.result.book ≡ c.args.word.now.head.book = ap (λ s. s.book) again ∙ (c.self.invariant.1 ∙ sym (ap (λ w. w.book) h)) in
-    let may : MayHappen (replay beginning c.again-seen.result.log) c.plain-offer.result.ask = rw (ap (λ s. s.log) again, c.self.view_is, offer.1) c.requires.possible in (
+    let may : MayHappen (replay_entries beginning c.again-seen.result.log) c.plain-offer.result.ask = rw (ap (λ s. s.log) again, c.self.view_is, offer.1) c.requires.possible in (
       ap (λ w. w.tracked) h,
       book,
       pen.0 ∙ book,

@@ -3,7 +3,7 @@ use Rattle.ls_machine.specs.Counts.{no_events}
 use Rattle.ls_machine.specs.declared.base.Counts.{Counts}
 use Rattle.ls_desk.specs.Stands.{IsSound, Seen, counts_of}
 use Rattle.ls_history.specs.declared.history_entry.HistoryEntry.{HistoryEntry}
-use Rattle.ls_history.specs.History.{AreSmall, IsDesk, MayHappen, replay}
+use Rattle.ls_history.specs.History.{AreSmall, IsDesk, MayHappen, replay_entries}
 use Rattle.ls_history.specs.Places.{beginning}
 use Rattle.ls_history.proofs.Leads.{leads_led, leads_may}
 use Rattle.ls_history.proofs.book.History.add.Goals as goal
@@ -20,7 +20,7 @@ add-requires-clause-possible g c =
     let is = is_desk desk c.counts-counts.result c.journal-sound.ensures.sound counts.value counts.none small in
     let entry = g.M.Plain.ask c.args.about.now in
     let may = leads_may c.args.self.now entry desk (c.requires.leads is) is.sound in
-    subst (λ (log : List HistoryEntry). MayHappen (replay beginning log) entry) (sym c.self.view_is) may
+    subst (λ (log : List HistoryEntry). MayHappen (replay_entries beginning log) entry) (sym c.self.view_is) may
 
 pub returns-clause-led : goal.returns-clause-led
 returns-clause-led g c =

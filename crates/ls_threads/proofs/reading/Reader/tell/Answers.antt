@@ -3,7 +3,7 @@ use Rattle.std.specs.Prelude.{Vec}
 use Rattle.std.specs.Option.{option_map}
 use Rattle.std.specs.declared.alloc.Global.{Global}
 use Rattle.ls_history.specs.Told.{heard_of}
-use Rattle.ls_threads.specs.Reading.{IsTold, Replies}
+use Rattle.ls_threads.specs.Reading.{IsTold, HeardReplies}
 use Rattle.ls_threads.proofs.reading.Reader.tell.Goals as goal
 
 -- what is said to whoever asked, by the body that was made
@@ -13,7 +13,7 @@ by_body wanted made known said is = sym said ∙ ap (option_map (λ (b : Vec ℕ
 
 pub returns-in_default-clause-ok : goal.returns-in_default-clause-ok
 returns-in_default-clause-ok g c =
-    let heard : Replies = heard_of c.args.self.now.seat.front in
+    let heard : HeardReplies = heard_of c.args.self.now.seat.front in
     subst (λ (body : Option (List ℕ)). IsTold body heard heard) (sym (by_body _ c.in_ok-body.field-0 None c.in_ok-body.ensures.body c.in_default.is)) refl
 
 pub returns-clause-ok : goal.returns-clause-ok

@@ -1,5 +1,5 @@
 use Rattle.std.proofs.Common.{◌∙◌, ap, sym}
-use Rattle.ls_history.specs.History.{replay}
+use Rattle.ls_history.specs.History.{replay_entries}
 use Rattle.ls_history.specs.Places.{beginning}
 use Rattle.ls_workers.specs.Seats.{logged_by}
 use Rattle.ls_workers.proofs.Logging.{is_logged, knows_refused}
@@ -12,7 +12,7 @@ returns-clause-logged g c =
     let seat = c.client-result.new.seat in
     let said = c.client-result.ensures in
     is_logged c.args.event c.client-result.result g.C.Crew.max_journal g.C.Crew.max_events was.desk new.desk was.history seat.front (logged_by c.args.seat.now.audit_log) (logged_by c.prepare_note.new.self) (logged_by seat.audit_log)
-    said.added was.led (new.led ∙ sym (ap (replay beginning) said.all)) was.limits c.prepare_note.ensures.kept said.logged
+    said.added was.led (new.led ∙ sym (ap (replay_entries beginning) said.all)) was.limits c.prepare_note.ensures.kept said.logged
 
 pub returns-clause-err : goal.returns-clause-err
 returns-clause-err g c =

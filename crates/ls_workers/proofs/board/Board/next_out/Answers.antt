@@ -1,8 +1,8 @@
 use Rattle.std.proofs.Common.{◌≡◌, ◌∙◌, ap, rules, subst, sym, true}
 use Rattle.ls_desk.specs.Stands.{IsSound}
 use Rattle.ls_history.specs.Ends.{stop_of}
-use Rattle.ls_history.specs.History.{replay}
-use Rattle.ls_history.specs.Places.{beginning, place_of}
+use Rattle.ls_history.specs.History.{replay_entries}
+use Rattle.ls_history.specs.Places.{beginning, place_of_desk}
 use Rattle.ls_workers.specs.Ends.{has_news}
 use Rattle.ls_workers.proofs.Placed.{nothing_more, of_none}
 use Rattle.ls_workers.proofs.board.Board.next_out.Goals as goal
@@ -17,7 +17,7 @@ returns-clause-nothing g c =
     let stays : now.stop ≡ was.stop = search rules in
     of_none c.next_out.result _ _ _
     (λ none sound.
-    nothing_more was.desk was.stop log (subst IsSound none.0 sound) (ap place_of (sym none.0) ∙ (now.led ∙ sym (ap (replay beginning) all))) (sym stays ∙ (now.ended ∙ sym (ap stop_of all))) news none.2)
+    nothing_more was.desk was.stop log (subst IsSound none.0 sound) (ap place_of_desk (sym none.0) ∙ (now.led ∙ sym (ap (replay_entries beginning) all))) (sym stays ∙ (now.ended ∙ sym (ap stop_of all))) news none.2)
     c.next_out.ensures.nothing c.next_out.ensures.sound
 
 pub returns-clause-history : goal.returns-clause-history

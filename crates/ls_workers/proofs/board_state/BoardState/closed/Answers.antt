@@ -1,6 +1,6 @@
 use Rattle.std.proofs.Common.{◌∙◌, ℕ, List, subst, sym}
 use Rattle.ls_history.specs.declared.history_entry.HistoryEntry.{HistoryEntry}
-use Rattle.ls_history.specs.History.{IsLegal}
+use Rattle.ls_history.specs.History.{IsLegalHistory}
 use Rattle.ls_history.specs.Told.{LieBeside}
 use Rattle.ls_history.proofs.Histories.{beside_heard, beside_outs}
 use Rattle.ls_workers.specs.Seats.{AgreesAll, HasAgreed, logged_by}
@@ -18,7 +18,7 @@ returns-clause-history g c =
     let client = c.args.client in
     let writer = c.args.writer in (
       log,
-      record { legal = subst IsLegal c.front-front.ensures c.legal.ensures; led = c.audited-desk.ensures.led },
+      record { legal = subst IsLegalHistory c.front-front.ensures c.legal.ensures; led = c.audited-desk.ensures.led },
       beside_heard client.front log (subst (λ (log : List HistoryEntry). LieBeside client.front log) c.front-front.ensures c.beside.ensures) (sym c.audited-desk.ensures.heard ∙ client.all_heard),
       beside_outs writer.front log (subst (λ (log : List HistoryEntry). LieBeside writer.front log) c.front-front.ensures c.beside-2.ensures) (sym c.audited-desk.ensures.sent ∙ writer.all_left),
     )

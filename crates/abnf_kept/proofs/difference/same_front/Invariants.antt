@@ -1,9 +1,0 @@
-use Rattle.std.proofs.Common.{◌-◌}
-use Rattle.abnf_kept.specs.own.Parts.{IsFront}
-use Rattle.abnf_kept.proofs.difference.same_front.Given as goal
-
-abbrev pub invariant-loop-front : goal.invariant-loop-front
-invariant-loop-front l = IsFront l.ours l.theirs l.front
-
-abbrev pub decreases-loop-front : goal.decreases-loop-front
-decreases-loop-front l = l.most - l.front

@@ -1,6 +1,0 @@
-use Rattle.abnf_outcome.proofs.ByTableLaws.{flags_tell}
-use Rattle.abnf_outcome.proofs.ToldMarks.{all_led}
-use Rattle.abnf_outcome.proofs.found_in.flags_tell_of_blocks.Goals as goal
-
-pub returns : goal.returns
-returns c = λ digests held led table defined tolds are_held are_led are_defined flagged. flags_tell digests held led table defined are_held (all_led digests held led are_led) are_defined tolds flagged

@@ -1,5 +1,0 @@
-use Rattle.abnf_outcome.proofs.Unproductive.{names_tell}
-use Rattle.abnf_outcome.proofs.laws.names_tell_what_is_unproductive.Goals as goal
-
-pub returns : goal.returns
-returns c = names_tell

@@ -1,5 +1,0 @@
-use Rattle.abnf_outcome.proofs.NamesOfItems.{uses_said}
-use Rattle.abnf_outcome.proofs.laws.rules_use_the_names_of_their_items.Goals as goal
-
-pub returns : goal.returns
-returns c = uses_said

@@ -1,6 +1,0 @@
-use Rattle.abnf_outcome.specs.own.Flags.{is_strange_number}
-use Rattle.abnf_outcome.proofs.CoreMarks.{AreMarksUpTo}
-use Rattle.abnf_outcome.proofs.outcome.strange_marks.Given as goal
-
-abbrev pub invariant-loop-number : goal.invariant-loop-number
-invariant-loop-number l = AreMarksUpTo (is_strange_number l.defined l.core) l.number l.marks.items
