@@ -370,7 +370,8 @@ class Tree:
 
     def has_law(self, name, crate):
         """Whether a crate has a law of this name: a public function of nothing."""
-        return any(path.startswith(f"crates/{crate}/src/") and f"\npub fn {name}()" in f"\n{text}" for path, text in self.texts.items())
+        law = re.compile(rf"(?m)^pub fn {name}(?:<[^\n()]*>)?\(\)")
+        return any(path.startswith(f"crates/{crate}/src/") and law.search(text) for path, text in self.texts.items())
 
     def has_code(self, piece, end):
         if end not in self.squeezed:

@@ -1,6 +1,6 @@
 //! Whether two desks stand at the same point: by the whole of their journals, and of the states from which these began.
 
-use ls_desk::{Desk, Document, Entry, Event, Request, SharedSnapshot, Waiting};
+use ls_desk::{Desk, Document, Event, OutboxEntry, Request, SharedSnapshot, Waiting};
 use ls_lists::Text;
 use ls_machine::find::{same_ask, same_encoding, same_id};
 use ls_machine::same_event;
@@ -51,23 +51,23 @@ fn are_same_jobs(a: &[Waiting], b: &[Waiting]) -> bool {
     a.len() == b.len() && a.iter().zip(b.iter()).all(|(a, b)| is_same_job(a, b))
 }
 
-fn is_same_entry(a: &Entry, b: &Entry) -> bool {
+fn is_same_entry(a: &OutboxEntry, b: &OutboxEntry) -> bool {
     match (a, b) {
-        (Entry::Body(a), Entry::Body(b)) => a.as_slice() == b.as_slice(),
+        (OutboxEntry::Body(a), OutboxEntry::Body(b)) => a.as_slice() == b.as_slice(),
         (
-            Entry::Failure { ticket, id, code },
-            Entry::Failure {
+            OutboxEntry::Failure { ticket, id, code },
+            OutboxEntry::Failure {
                 ticket: other_ticket,
                 id: other_id,
                 code: other_code,
             },
         ) => (*ticket, *code) == (*other_ticket, *other_code) && same_id(id, other_id),
-        (Entry::Outcome(a), Entry::Outcome(b)) => is_same_job(a, b),
+        (OutboxEntry::Outcome(a), OutboxEntry::Outcome(b)) => is_same_job(a, b),
         _ => false,
     }
 }
 
-fn are_same_entries(a: &[Entry], b: &[Entry]) -> bool {
+fn are_same_entries(a: &[OutboxEntry], b: &[OutboxEntry]) -> bool {
     a.len() == b.len() && a.iter().zip(b.iter()).all(|(a, b)| is_same_entry(a, b))
 }
 

@@ -3,8 +3,8 @@ ghost use Rattle.std.specs.Prelude.{◌<◌, ◌≤◌, ◌≢◌};
 
 use ls_answers::{Ask, Done, Job};
 use ls_desk::{
-    Boxed, Counts, Desk, DeskFault, Document, Entry, Event, Kept, Out, Request, SharedSnapshot,
-    State, Waiting,
+    Boxed, Counts, Desk, DeskFault, Document, Event, Kept, Out, OutboxEntry, Request,
+    SharedSnapshot, State, Waiting,
 };
 use ls_lists::{List, Text};
 use ls_machine::ClientEvent;
@@ -142,7 +142,7 @@ pub fn counted(client: u64, took: u64, returned: u64, finished: u64, sent: u64) 
 pub fn state(
     documents: List<Document>,
     waiting: List<Waiting>,
-    unsent: List<Entry>,
+    unsent: List<OutboxEntry>,
     next_version: u64,
     next_ticket: u64,
 ) -> State {
@@ -190,27 +190,27 @@ pub fn waits_for(waiting: &Waiting) -> u64 {
     *ticket
 }
 
-pub fn entry_body(body: List<u8>) -> Entry {
-    Entry::Body(body)
+pub fn entry_body(body: List<u8>) -> OutboxEntry {
+    OutboxEntry::Body(body)
 }
 
-pub fn entry_failure(ticket: u64, id: Id, code: i32) -> Entry {
-    Entry::Failure { ticket, id, code }
+pub fn entry_failure(ticket: u64, id: Id, code: i32) -> OutboxEntry {
+    OutboxEntry::Failure { ticket, id, code }
 }
 
-pub fn entry_outcome(waiting: Waiting) -> Entry {
-    Entry::Outcome(waiting)
+pub fn entry_outcome(waiting: Waiting) -> OutboxEntry {
+    OutboxEntry::Outcome(waiting)
 }
 
-pub fn entry_kind(entry: &Entry) -> u8 {
+pub fn entry_kind(entry: &OutboxEntry) -> u8 {
     match entry {
-        Entry::Body(_) => 0,
-        Entry::Failure {
+        OutboxEntry::Body(_) => 0,
+        OutboxEntry::Failure {
             ticket: _,
             id: _,
             code: _,
         } => 1,
-        Entry::Outcome(_) => 2,
+        OutboxEntry::Outcome(_) => 2,
     }
 }
 
