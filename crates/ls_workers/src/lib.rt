@@ -36,6 +36,7 @@ mod board_state;
 mod calls;
 mod crew;
 mod ended;
+mod gate;
 mod lately;
 mod laws;
 mod ledgers;
@@ -47,6 +48,7 @@ pub use audit_log::AuditLog;
 pub use board::Board;
 pub use board_state::SeatFault;
 pub use ended::Ended;
+pub use gate::Gate;
 pub use laws::first_waiting_is_let_go;
 pub use ledgers::{
     Blanks, Crew, Ledgers, OfClient, OfFinished, OfHeard, OfReturned, OfSent, OfTook,
@@ -54,4 +56,4 @@ pub use ledgers::{
 pub use ls_history::{Front, Stop};
 pub use ls_machine::{ClientAnswer, ClientEvent};
 pub use seats::{ClientSeat, Count, WorkerSeat, WriterSeat};
-pub use worker::{Gate, work};
+pub use worker::work;

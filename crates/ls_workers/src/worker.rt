@@ -7,6 +7,7 @@ ghost use Rattle.ls_workers.specs.Jobs.{HasNoJob, IsNotHeld, led_by};
 ghost use Rattle.ls_workers.specs.Refusals.{ends_work, may_refuse_run};
 
 use crate::board::Board;
+use crate::gate::Gate;
 use crate::ledgers::Crew;
 use crate::seats::WorkerSeat;
 use ls_answers::{Ask, Done, Job, run_keeping};
@@ -14,12 +15,6 @@ use ls_desk::DeskFault;
 use ls_history::Front;
 use std::alloc::Global;
 use std::sync::Wait;
-
-/// What a worker passes between the take of a job and its run. It may hold the worker back for a while.
-pub trait Gate {
-    /// Lets the worker that took the job with this ticket pass. No lock is held. It may wait.
-    fn pass<R: Wait>(&self, rt: &R, ticket: u64);
-}
 
 /// What a refusal of a run means for whoever ran the job: nothing where the job had ended meanwhile, and else it ends the work.
 fn ended_by(fault: DeskFault) -> Option<DeskFault>
