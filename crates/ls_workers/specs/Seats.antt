@@ -1,10 +1,10 @@
 -- The seats that a board is closed with.
-use Rattle.std.specs.Prelude.{◌≡◌, ◌<◌, ◌-◌, ◌==◌, ◌↔◌, ◌++◌, ◌∷◌, ℕ, List, [], All, length, Bool, true, false, Result, Ok, count_by, if◌then◌else◌, slice_get, vec_len, vec_capacity}
+use Rattle.std.specs.Prelude.{◌≡◌, ◌<◌, ◌-◌, ◌==◌, ◌↔◌, ◌++◌, ◌∷◌, ℕ, List, [], All, length, Bool, true, false, Option, Some, None, Result, Ok, count_by, if◌then◌else◌, slice_get, vec_len, vec_capacity}
 use Rattle.std.specs.List.{list_all}
 use Rattle.ls_machine.specs.declared.event.Event.{Event}
 use Rattle.ls_desk.specs.Anew.{base_after, journal_after}
 use Rattle.ls_desk.specs.Stands.{Seen, counts_of, fresh, is_long}
-use Rattle.ls_machine.specs.Client.{Notes, client_events, entry_of, sent_tickets}
+use Rattle.ls_machine.specs.Client.{HasSmallText, Notes, client_events, entry_of, note_of, opens_too_large, sent_tickets}
 use Rattle.ls_machine.specs.declared.client.ClientEvent.{ClientEvent}
 use Rattle.ls_machine.specs.declared.client.ClientAnswer.{ClientAnswer}
 use Rattle.ls_machine.specs.declared.event.DeskFault.{DeskFault}
@@ -69,6 +69,11 @@ pub record KnowsTheSame (old new : AuditLog) : Type 0 where
   pub list : new.list ≡ old.list
   pub checkpoints : new.checkpoints ≡ old.checkpoints
   pub agreed : HasAgreed new ↔ HasAgreed old
+
+-- It is the note of the event: its entry, the answer aside. An event whose text is too large for any desk has none.
+abbrev pub IsNoteOf : ClientEvent → Option Event → Type 0
+IsNoteOf e (Some note) = (note ≡ note_of e) × (opens_too_large e ≡ false) × HasSmallText note
+IsNoteOf e None = opens_too_large e ≡ true
 
 -- An entry needs no memory any more, whether its event makes a checkpoint or not.
 pub record HasRoomForEntry (log : held.AuditLog) : Type 0 where

@@ -1,7 +1,7 @@
 //! What a client's seat lists of its events, to be compared with the journal.
-ghost use Rattle.std.specs.Prelude.{◌≡◌, ◌↔◌, ◌-◌, ◌++◌, ◌∷◌, ◌<◌, [], All, IfOk, IfNone, IfSome, OnOk, Some, length, slice_get, vec_len, vec_capacity, true, false, if◌then◌else◌};
-ghost use Rattle.ls_machine.specs.Client.{HasSmallText, client_events, filled, note_of, opens_too_large};
-ghost use Rattle.ls_workers.specs.Seats.{AreSame, HasAgreed, HasRoomForEntry, KnowsTheSame, logged_by, logged_nothing};
+ghost use Rattle.std.specs.Prelude.{◌≡◌, ◌↔◌, ◌-◌, ◌++◌, ◌∷◌, ◌<◌, [], All, IfOk, OnOk, Some, length, slice_get, vec_len, vec_capacity, true, false, if◌then◌else◌};
+ghost use Rattle.ls_machine.specs.Client.{client_events, filled};
+ghost use Rattle.ls_workers.specs.Seats.{AreSame, HasAgreed, HasRoomForEntry, IsNoteOf, KnowsTheSame, logged_by, logged_nothing};
 
 use crate::agree::ends_with;
 use crate::ended::Ended;
@@ -62,9 +62,7 @@ impl AuditLog {
     ///
     /// Where an allocation is refused.
     pub(crate) fn prepare_note(&mut self, event: &ClientEvent) -> Result<Option<Event>, AllocError>
-        ensures some { IfOk result (λ noted. IfSome noted (λ note. note ≡ note_of event.now)) }
-        ensures none { IfOk result (λ noted. IfNone noted (opens_too_large event.now ≡ true)) }
-        ensures fits { IfOk result (λ noted. IfSome noted (λ note. (opens_too_large event.now ≡ false) × HasSmallText note)) }
+        ensures note { IfOk result (λ noted. IsNoteOf event.now noted) }
         ensures room { OnOk result (HasRoomForEntry self.new) }
         ensures kept { KnowsTheSame (logged_by self.old) (logged_by self.new) }
     {

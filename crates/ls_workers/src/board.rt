@@ -116,9 +116,7 @@ impl<C: Crew> Board<C> {
         ensures err { OnErr result ((seat.new.asked.share.amount ≡ seat.old.asked.share.amount) × KnowsTheSame (logged_by seat.old.audit_log) (logged_by seat.new.audit_log)) }
         ensures mark { seat.new.mark ≡ seat.old.mark }
     {
-        let Ok(note) = seat.audit_log.prepare_note(&event) else {
-            return self.state.lock(rt).refuse(rt, seat, &event);
-        };
+        let note = seat.audit_log.prepare_note(&event);
         let mut state = self.state.lock(rt);
         let text = state.desk.text_closed_by(&event).unwrap_or(None);
         let result = state.client(rt, seat, event, note);

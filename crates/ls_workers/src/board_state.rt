@@ -8,13 +8,12 @@ ghost use Rattle.ls_history.specs.declared.history_entry.HistoryEntry.TheVariant
 ghost use Rattle.ls_history.specs.History.{HasLedTo};
 ghost use Rattle.ls_history.specs.Told.{heard_of, outs_of};
 ghost use Rattle.ls_machine.specs.declared.client.ClientEvent.{ClientEvent};
-ghost use Rattle.ls_machine.specs.declared.event.DeskFault.TheVariants.{Memory};
 ghost use Rattle.ls_workers.specs.Count.{Counts};
-ghost use Rattle.ls_machine.specs.Client.{HasSmallText, IsAllowed, note_of, opens_too_large};
+ghost use Rattle.ls_machine.specs.Client.{IsAllowed};
 ghost use Rattle.ls_desk.specs.Faults.{take_fault, give_back_fault, finish_fault};
 ghost use Rattle.ls_workers.specs.Jobs.{HasLimits, IsFinishedAt, IsRefusedAt, IsReturnedAt, IsTakenAt, led_by};
 ghost use Rattle.ls_workers.specs.Refusals.{is_shortage, may_refuse_return, may_refuse_run};
-ghost use Rattle.ls_workers.specs.Seats.{Agrees, AgreesAll, HasAgreed, HasHistory, HasRoomForEntry, HaveHistory, Logs, since, logged_by};
+ghost use Rattle.ls_workers.specs.Seats.{Agrees, AgreesAll, HasAgreed, HasHistory, HasRoomForEntry, HaveHistory, IsNoteOf, Logs, since, logged_by};
 ghost use Rattle.ls_workers.specs.Ends.{first_waiting, is_first, has_job, has_job_for, has_news};
 
 use crate::agree::strays;
@@ -26,6 +25,7 @@ use ls_answers::{Done, Job};
 use ls_desk::{Desk, DeskFault, Event, Kept, Out, ticket_of};
 use ls_history::{BringsRun, Front, History, Leaves, ReturnsJob, Stop, StopsBoard, TakesJob};
 use ls_machine::{ClientAnswer, ClientEvent};
+use std::alloc::AllocError;
 use std::marker::Brand;
 use std::sync::Wait;
 
@@ -186,22 +186,21 @@ impl<C: Crew> BoardState<C> {
         self.is_over()
     }
 
-    /// Enters a client's event. The seat has room for one entry more, which is compared with the journal's, and the note is the event's.
-    /// Where the event makes a checkpoint, the seat's list begins anew, and the seat has what it had beside the journal that ended. The
-    /// history has the event with its answer, or its refusal.
+    /// Enters a client's event, whose note it is. The seat has room for one entry more, which is compared with the journal's. Where the
+    /// event makes a checkpoint, the seat's list begins anew, and the seat has what it had beside the journal that ended. Where there was no
+    /// memory for the note, the event is refused. The history has the event with its answer, or its refusal.
     pub fn client(
         &mut self,
         rt: &impl Wait,
         seat: &mut ClientSeat<C>,
         event: ClientEvent,
-        note: Option<Event>,
+        note: Result<Option<Event>, AllocError>,
     ) -> Result<ClientAnswer, DeskFault>
         ghost said: { ClientEvent }
         requires same { event ≡ said }
         requires allowed { IsAllowed event }
-        requires some { IfSome note (λ noted. (noted ≡ note_of event) × (opens_too_large event ≡ false) × HasSmallText noted) }
-        requires none { IfNone note (opens_too_large event ≡ true) }
-        requires room { HasRoomForEntry seat.old.audit_log }
+        requires note { IfOk note (λ noted. IsNoteOf event noted) }
+        requires room { OnOk note (HasRoomForEntry seat.old.audit_log) }
         ensures history { heard_of seat.new.front ≡ heard_of seat.old.front ++ (said, result) ∷ [] }
         ensures added { seat.new.front ≡ self.old.history ++ entry.Heard said result ∷ [] }
         ensures all { seat.new.front ≡ self.new.history }
@@ -216,42 +215,17 @@ impl<C: Crew> BoardState<C> {
         let long = is_long(&self.desk);
         self.books.heard.audit(&mut seat.heard);
         self.history.front().beside(&seat.front);
-        let reply = enter(&mut self.desk, event, note.as_ref());
+        let reply = enter(&mut self.desk, event, &note);
         self.history.add_heard::<Brand>(rt, &self.desk, &reply);
         seat.front = self.history.seen();
         self.books.heard.add(&mut seat.heard, 1);
         let Ok(answer) = reply else {
             return reply;
         };
-        let Some(note) = note else { unreachable!() };
+        let Ok(Some(note)) = note else { unreachable!() };
         seat.asked.one_more(&mut self.books.client);
         seat.audit_log.log(long, &mut self.desk, note, answer);
         Ok(answer)
-    }
-
-    /// Enters that a client's event was refused since there was no memory for its note. Nothing else changes, at the desk or in the seat.
-    pub fn refuse(
-        &mut self,
-        rt: &impl Wait,
-        seat: &mut ClientSeat<C>,
-        _event: &ClientEvent,
-    ) -> Result<ClientAnswer, DeskFault>
-        ghost said: { ClientEvent }
-        requires { _event.now ≡ said }
-        ensures history { heard_of seat.new.front ≡ heard_of seat.old.front ++ (said, result) ∷ [] }
-        ensures refused { result ≡ Err Memory }
-        ensures told { (seat.new.asked.share.amount ≡ seat.old.asked.share.amount) × (logged_by seat.new.audit_log ≡ logged_by seat.old.audit_log) }
-        ensures same { self.new.desk ≡ self.old.desk }
-        ensures mark { seat.new.mark ≡ seat.old.mark }
-        ensures ends { (self.new.stop ≡ self.old.stop) × (self.new.idle ≡ self.old.idle) }
-    {
-        self.books.heard.audit(&mut seat.heard);
-        self.history.front().beside(&seat.front);
-        let refusal = Err(DeskFault::Memory);
-        self.history.add_heard::<Brand>(rt, &self.desk, &refusal);
-        seat.front = self.history.seen();
-        self.books.heard.add(&mut seat.heard, 1);
-        refusal
     }
 
     /// Takes the first queued job. `None` where the board has ended at once, or where none is queued, which takes no memory. The seat has

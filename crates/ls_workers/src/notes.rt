@@ -2,8 +2,9 @@
 //!
 //! It is made before the lock is taken, and filled without memory once the desk has answered. So nothing of the client's text is copied
 //! under the lock for the seat's list, and the text of an open is shared with it.
-ghost use Rattle.std.specs.Prelude.{◌≡◌, IfOk, IfNone, IfSome, true, false};
-ghost use Rattle.ls_machine.specs.Client.{HasSmallText, filled, note_of, opens_too_large};
+ghost use Rattle.std.specs.Prelude.{◌≡◌, IfOk};
+ghost use Rattle.ls_machine.specs.Client.{filled};
+ghost use Rattle.ls_workers.specs.Seats.{IsNoteOf};
 
 use ls_desk::{Event, snapshot_of_text};
 use ls_machine::{Boxed, ClientAnswer, ClientEvent, copy_of};
@@ -16,9 +17,7 @@ use std::alloc::{AllocError, Global};
 ///
 /// Where an allocation is refused.
 pub fn note_of(alloc: Global, event: &ClientEvent) -> Result<Option<Event>, AllocError>
-    ensures some { IfOk result (λ noted. IfSome noted (λ note. note ≡ note_of event.now)) }
-    ensures none { IfOk result (λ noted. IfNone noted (opens_too_large event.now ≡ true)) }
-    ensures fits { IfOk result (λ noted. IfSome noted (λ note. (opens_too_large event.now ≡ false) × HasSmallText note)) }
+    ensures { IfOk result (λ noted. IsNoteOf event.now noted) }
 {
     match event {
         ClientEvent::DidOpen(uri, label, text, encoding) => {

@@ -2,6 +2,3 @@ use Rattle.ls_workers.proofs.board.Board.client.Given as goal
 
 abbrev pub ghost-client : goal.ghost-client
 ghost-client g a = a.event
-
-abbrev pub ghost-refuse : goal.ghost-refuse
-ghost-refuse g a = a._event.now

@@ -144,8 +144,8 @@ returns-clause-logged g c =
     let is = c.in-Ok.is in
     let entered = c.enter-reply.ensures in
     let came = c.log.ensures in
-    let noted : c.in-Some.note ≡ note_of c.args.event = search rules in
-    let entry = filled c.in-Some.note answer in
+    let noted : c.in-Ok-Some.note ≡ note_of c.args.event = search rules in
+    let entry = filled c.in-Ok-Some.note answer in
     logs c.args.event answer entry c.is_long-long.result now.desk c.enter-reply.new.desk c.log.new.desk (logged_by c.args.seat.now.audit_log) (logged_by c.log.new.self)
     (record { journal = if_ok _ reply answer is entered.ok; base = on_ok reply answer is entered.base; ended = on_ok reply answer is entered.ended; entry_is = if_ok _ reply answer is entered.told ∙ ap (λ (note : Event). Some (filled note answer)) (sym noted) })
     c.is_long-long.ensures

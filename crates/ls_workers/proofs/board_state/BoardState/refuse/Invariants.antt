@@ -1,4 +1,0 @@
-use Rattle.ls_workers.proofs.board_state.BoardState.refuse.Given as goal
-
-abbrev pub ghosts-add_heard : goal.ghosts-add_heard
-ghosts-add_heard g a = record { event = g.said }
