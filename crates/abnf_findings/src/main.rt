@@ -1,14 +1,14 @@
 //! `abnf_findings`, which prints what is found in the grammars of files, for makefiles, hooks and continuous integration.
 //!
-//! It opens files and standard input, prints, and ends with a status. What the arguments ask for is said by
-//! `findings_arguments`, and what is printed of a file, and how the program ends, by `findings_files`.
+//! It opens files and standard input, prints, and ends with a status. What the arguments ask for, what is printed of a file,
+//! and how the program ends is said by `findings_files`.
 #![tactic(auto)]
 
-use findings_arguments::{Arguments, Asked, Request, help, request_of};
 use findings_files::{
-    Ending, FileFault, Format, Known, Outcome, Printed, Snapshot, Text, ending_of, fault_line,
-    print_as, print_grammar_as, print_rules_as, read_text,
+    Arguments, Asked, Ending, FileFault, Format, Known, Outcome, Printed, Request, Snapshot, Text,
+    ending_of, fault_line, help, print_as, print_grammar_as, print_rules_as, read_text, request_of,
 };
+use std::alloc::AllocError;
 use std::fs::File;
 use std::io::{ErrorKind, Write};
 use std::process::ExitCode;
@@ -29,9 +29,7 @@ fn words_of(rt: &HostRuntime) -> Result<Vec<Text>, Ending> {
     };
     let mut words = Vec::new(rt.alloc());
     for word in given {
-        if words.push(Text::new(word)).is_err() {
-            return Err(Ending::OutOfMemory);
-        }
+        words.push(Text::new(word)).map_err(AllocError::from)?;
     }
     Ok(words)
 }
@@ -141,9 +139,7 @@ fn known_files(rt: &HostRuntime, arguments: &Arguments) -> Result<(Known, Vec<Ou
     for file in arguments.with.as_slice() {
         let outcome = tell_known(rt, arguments, &mut known, file.as_str())?;
         all_read = all_read && outcome != Outcome::NotRead;
-        if outcomes.push(outcome).is_err() {
-            return Err(Ending::OutOfMemory);
-        }
+        outcomes.push(outcome).map_err(AllocError::from)?;
     }
     if all_read {
         Ok((known, outcomes))
@@ -204,9 +200,7 @@ fn tell_all(rt: &HostRuntime, arguments: &Arguments) -> Result<Ending, Ending> {
     let (known, mut outcomes) = known_files(rt, arguments)?;
     for file in arguments.files.as_slice() {
         let outcome = tell(rt, arguments, &known, file.as_str())?;
-        if outcomes.push(outcome).is_err() {
-            return Err(Ending::OutOfMemory);
-        }
+        outcomes.push(outcome).map_err(AllocError::from)?;
     }
     let is_strict = arguments.asked == Asked::StrictFindings;
     Ok(ending_of(is_strict, outcomes.as_slice()))
@@ -214,10 +208,7 @@ fn tell_all(rt: &HostRuntime, arguments: &Arguments) -> Result<Ending, Ending> {
 
 /// Prints how the program is used.
 fn tell_help(rt: &HostRuntime) -> Result<Ending, Ending> {
-    match help(rt.alloc()) {
-        Ok(text) => say(rt, text.as_str())?,
-        Err(_) => return Err(Ending::OutOfMemory),
-    }
+    say(rt, help(rt.alloc())?.as_str())?;
     Ok(Ending::Good)
 }
 

@@ -1,7 +1,13 @@
 -- Something is read of each file, and only one such thing.
 use Rattle.std.proofs.Common.{◌≡◌, ◌∙◌, ◌<◌, ◌^◌, ℕ, Bool, true, false, List, [], ◌∷◌, ◌++◌, length, refl, sym, ap, subst}
 use Rattle.std.proofs.lemmas.List.{length-map}
-use Rattle.std.specs.Prelude.{All, Result, Ok, Err}
+use Rattle.std.specs.Prelude.{All, IfErr, Result, Ok, Err}
+use Rattle.std.specs.Result.{IsErrAnd}
+use Rattle.ls_text.specs.declared.fault.TextFault.{TextFault}
+use Rattle.ls_text.specs.declared.fault.TextFault.TheVariants as fault
+use Rattle.text_files.specs.Files.{fault_of_text}
+use Rattle.text_files.specs.declared.file.FileFault.{FileFault}
+use Rattle.text_files.specs.declared.file.FileFault.TheVariants.{Memory, NotText}
 use Rattle.std.proofs.lemmas.List.Elements.{All-head, All-tail}
 use Rattle.origins.specs.Origins.{Sourced, characters, gathered_grammar}
 use Rattle.origins.specs.declared.unread.Aside.{Aside}
@@ -22,6 +28,13 @@ use Rattle.findings_files.specs.declared.format.Format.{Format}
 use Rattle.findings_files.specs.declared.format.Format.TheVariants.{Abnf, Markdown, Text, Xml}
 use Rattle.findings_files.specs.Contents.{AreRulesAlone, AreRemarked, HasSmallBlocks, IsContentIn, IsDraftContent, IsGrammarIn, IsSaid, LacksGrammar, has_no_grammar, whole, with_others}
 use Rattle.findings_files.specs.Grammars.{HasSmallRuns}
+
+-- what holds where a text is refused: by what is known of one that is too large, and of refused memory
+pub refused_text : {X : Type 0} (of : TextFault) (result : Result X FileFault) (P : FileFault → Type 0) → IsErrAnd result (λ f. f ≡ fault_of_text of)
+    → (of ≡ fault.TooLarge → P NotText) → P Memory → IfErr result P
+refused_text of (Ok x) P is large memory = tt
+refused_text fault.TooLarge (Err f) P is large memory = subst P (sym is) (large refl)
+refused_text fault.Memory (Err f) P is large memory = subst P (sym is) memory
 
 -- ---- one block more
 

@@ -1,3 +1,4 @@
+pub mod ArgumentLaws
 pub mod ContentLaws
 pub mod DraftLaws
 pub mod KnownLaws

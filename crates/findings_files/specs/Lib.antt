@@ -1,3 +1,4 @@
+pub mod Arguments
 pub mod Contents
 pub mod Drafts
 pub mod Endings
@@ -5,3 +6,4 @@ pub mod Formats
 pub mod Grammars
 pub mod Known
 pub mod Texts
+pub mod own

@@ -14,7 +14,7 @@ ghost use Rattle.findings_files.specs.Texts.{RefusesPrint, IsTextRefused};
 
 use crate::format::Format;
 use ls_lists::List;
-use ls_text::{Snapshot, TextFault};
+use ls_text::Snapshot;
 use markdown_blocks::gather_markdown;
 use origins::{Aside, Gathered, Lack, Unread};
 use published_blocks::{Published, gather_published};
@@ -37,11 +37,7 @@ pub(crate) fn snapshot_of(alloc: Global, text: String) -> Result<Snapshot, FileF
     ensures text { IfOk result (λ snapshot. snapshot ≡ chars (string_bytes text)) }
     ensures fault { IfErr result (λ fault. IsTextRefused (chars (string_bytes text)) fault) }
 {
-    match Snapshot::of_text(alloc, text) {
-        Ok(text) => Ok(text),
-        Err(TextFault::TooLarge) => Err(FileFault::NotText),
-        Err(TextFault::Memory) => Err(FileFault::Memory),
-    }
+    Ok(Snapshot::of_text(alloc, text)?)
 }
 
 /// The text of a grammar that was gathered.
@@ -49,10 +45,7 @@ pub(crate) fn text_of(alloc: Global, grammar: &Gathered) -> Result<Snapshot, Fil
     ensures text { IfOk result (λ text. text ≡ characters grammar.now) }
     ensures fault { IfErr result (λ fault. RefusesPrint grammar.now fault) }
 {
-    match String::from_str(alloc, grammar.as_str()) {
-        Ok(text) => snapshot_of(alloc, text),
-        Err(_) => Err(FileFault::Memory),
-    }
+    snapshot_of(alloc, String::from_str(alloc, grammar.as_str())?)
 }
 
 /// The whole text of a file as one block of grammar.
@@ -67,28 +60,6 @@ fn whole(alloc: Global, text: &Snapshot) -> Result<Gathered, Memory>
     Ok(grammar)
 }
 
-/// The grammar of a file that is one.
-fn file_grammar(alloc: Global, text: &Snapshot) -> Result<Gathered, FileFault>
-    ensures grammar { IfOk result (λ grammar. grammar ≡ spec.whole text.now) }
-    ensures fault { IfErr result (λ fault. fault ≡ FileFault.Memory) }
-{
-    match whole(alloc, text) {
-        Ok(grammar) => Ok(grammar),
-        Err(_) => Err(FileFault::Memory),
-    }
-}
-
-/// The grammar of a draft in Markdown.
-fn markdown_grammar(alloc: Global, draft: &Snapshot) -> Result<Gathered, FileFault>
-    ensures grammar { IfOk result (λ grammar. grammar ≡ gathered_grammar (markdown_blocks draft.now)) }
-    ensures fault { IfErr result (λ fault. fault ≡ FileFault.Memory) }
-{
-    match gather_markdown(alloc, draft) {
-        Ok(grammar) => Ok(grammar),
-        Err(_) => Err(FileFault::Memory),
-    }
-}
-
 /// The grammar of a draft in XML, or its fault.
 fn xml_grammar(alloc: Global, draft: &str) -> Result<Result<Gathered, XmlFault>, FileFault>
     ensures read { IfOk result (λ read. read ≡ grammar_behind [] (xml_blocks (chars draft.now))) }
@@ -98,29 +69,6 @@ fn xml_grammar(alloc: Global, draft: &str) -> Result<Result<Gathered, XmlFault>,
         Ok(grammar) => Ok(Ok(grammar)),
         Err(XmlFault::Memory) => Err(FileFault::Memory),
         Err(fault) => Ok(Err(fault)),
-    }
-}
-
-/// What is found in a published text.
-fn published(alloc: Global, text: &Snapshot) -> Result<Published, FileFault>
-    ensures found { IfOk result (λ found. IsPublished text.now found) }
-    ensures fault { IfErr result (spec.IsNotPublished text.now) }
-{
-    match gather_published(alloc, text) {
-        Ok(found) => Ok(found),
-        Err(TextFault::TooLarge) => Err(FileFault::NotText),
-        Err(TextFault::Memory) => Err(FileFault::Memory),
-    }
-}
-
-/// The text of a draft as one piece.
-fn to_text(draft: &Snapshot) -> Result<String, FileFault>
-    ensures text { IfOk result (λ text. chars (string_bytes text) ≡ draft.now) }
-    ensures fault { IfErr result (λ fault. fault ≡ FileFault.Memory) }
-{
-    match draft.to_text() {
-        Ok(text) => Ok(text),
-        Err(_) => Err(FileFault::Memory),
     }
 }
 
@@ -139,27 +87,10 @@ pub(crate) fn grammar_in(
     ensures fault { IfErr result (spec.IsNotGathered format text.now) }
 {
     match format {
-        Format::Abnf => Ok(Ok(file_grammar(alloc, text)?)),
-        Format::Markdown => Ok(Ok(markdown_grammar(alloc, text)?)),
-        Format::Xml => {
-            let draft = to_text(text)?;
-            xml_grammar(alloc, draft.as_str())
-        }
-        Format::Text => {
-            let found = published(alloc, text)?;
-            Ok(Ok(found.grammar))
-        }
-    }
-}
-
-/// What the blocks of a text are.
-pub(crate) fn counts_of(alloc: Global, text: &Snapshot) -> Result<Counts, FileFault>
-    ensures counts { IfOk result (AreCounted text.now) }
-    ensures fault { IfErr result (λ fault. fault ≡ FileFault.Memory) }
-{
-    match Counts::of(alloc, text) {
-        Ok(counts) => Ok(counts),
-        Err(_) => Err(FileFault::Memory),
+        Format::Abnf => Ok(Ok(whole(alloc, text)?)),
+        Format::Markdown => Ok(Ok(gather_markdown(alloc, text)?)),
+        Format::Xml => xml_grammar(alloc, text.to_text()?.as_str()),
+        Format::Text => Ok(Ok(gather_published(alloc, text)?.grammar)),
     }
 }
 
@@ -169,8 +100,7 @@ fn are_rules_alone(alloc: Global, block: &Gathered) -> Result<bool, FileFault>
     ensures fault { IfErr result (RefusesPrint block.now) }
 {
     let text = text_of(alloc, block)?;
-    let counts = counts_of(alloc, &text)?;
-    Ok(counts.are_rules_alone())
+    Ok(Counts::of(alloc, &text)?.are_rules_alone())
 }
 
 /// Whether something is said of a block: that nothing marks it, only if it is rules alone.
@@ -184,17 +114,6 @@ fn is_said(alloc: Global, aside: &Aside) -> Result<bool, FileFault>
     }
 }
 
-/// Puts what is said of a block behind what is said of those before it.
-fn put(said: &mut List<Unread>, unread: Unread) -> Result<(), FileFault>
-    ensures put { OnOk result (said.new ≡ said.old ++ unread ∷ []) }
-    ensures fault { IfErr result (λ fault. fault ≡ FileFault.Memory) }
-{
-    match said.push(unread) {
-        Ok(()) => Ok(()),
-        Err(_) => Err(FileFault::Memory),
-    }
-}
-
 /// What is said of these blocks.
 fn said(alloc: Global, asides: &[Aside]) -> Result<List<Unread>, FileFault>
     ensures said { IfOk result (spec.AreRemarked asides.now) }
@@ -203,31 +122,19 @@ fn said(alloc: Global, asides: &[Aside]) -> Result<List<Unread>, FileFault>
     let mut said = List::new(alloc);
     for aside in asides {
         if is_said(alloc, aside)? {
-            put(&mut said, aside.unread)?;
+            said.push(aside.unread)?;
         }
     }
     Ok(said)
 }
 
-/// What may have to be said of the blocks of a draft in Markdown.
-fn markdown_asides(alloc: Global, draft: &Snapshot) -> Result<Vec<Aside>, FileFault>
-    ensures asides { IfOk result (λ asides. asides.items ≡ m.unread_blocks draft.now) }
-    ensures fault { IfErr result (λ fault. fault ≡ FileFault.Memory) }
-{
-    match markdown_blocks::unread_blocks(alloc, draft) {
-        Ok(asides) => Ok(asides),
-        Err(_) => Err(FileFault::Memory),
-    }
-}
-
-/// The same of a draft in XML.
-fn xml_asides(alloc: Global, draft: &str) -> Result<Vec<Aside>, FileFault>
-    ensures asides { IfOk result (λ asides. asides.items ≡ xml.unread_elements (chars draft.now)) }
-    ensures fault { IfErr result (λ fault. fault ≡ FileFault.Memory) }
+/// What may have to be said of the blocks of a draft in XML.
+fn xml_asides(alloc: Global, draft: &str) -> Result<Vec<Aside>, Memory>
+    ensures { IfOk result (λ asides. asides.items ≡ xml.unread_elements (chars draft.now)) }
 {
     match xml_blocks::unread_blocks(alloc, draft) {
         Ok(asides) => Ok(asides),
-        Err(_) => Err(FileFault::Memory),
+        Err(_) => Err(Memory),
     }
 }
 
@@ -236,9 +143,9 @@ fn markdown_content(alloc: Global, draft: &Snapshot) -> Result<Content, FileFaul
     ensures content { IfOk result (λ content. spec.IsContentIn Format.Markdown draft.now (Ok content)) }
     ensures fault { IfErr result (spec.IsNotRead Format.Markdown draft.now) }
 {
-    let asides = markdown_asides(alloc, draft)?;
+    let asides = markdown_blocks::unread_blocks(alloc, draft)?;
     let unread = said(alloc, asides.as_slice())?;
-    let grammar = markdown_grammar(alloc, draft)?;
+    let grammar = gather_markdown(alloc, draft)?;
     Ok(Content { grammar, unread })
 }
 
@@ -247,7 +154,7 @@ fn xml_content(alloc: Global, draft: &Snapshot) -> Result<Result<Content, XmlFau
     ensures content { IfOk result (spec.IsContentIn Format.Xml draft.now) }
     ensures fault { IfErr result (spec.IsNotRead Format.Xml draft.now) }
 {
-    let text = to_text(draft)?;
+    let text = draft.to_text()?;
     let grammar = match xml_grammar(alloc, text.as_str())? {
         Ok(grammar) => grammar,
         Err(fault) => return Ok(Err(fault)),
@@ -273,18 +180,15 @@ pub(crate) fn content_in(
 {
     match format {
         Format::Abnf => {
-            let grammar = file_grammar(alloc, text)?;
+            let grammar = whole(alloc, text)?;
             let unread = List::new(alloc);
             Ok(Ok(Content { grammar, unread }))
         }
         Format::Markdown => Ok(Ok(markdown_content(alloc, text)?)),
         Format::Xml => xml_content(alloc, text),
         Format::Text => {
-            let found = published(alloc, text)?;
-            Ok(Ok(Content {
-                grammar: found.grammar,
-                unread: found.unread,
-            }))
+            let Published { grammar, unread } = gather_published(alloc, text)?;
+            Ok(Ok(Content { grammar, unread }))
         }
     }
 }
@@ -295,12 +199,11 @@ pub(crate) fn lacks_grammar(
     format: Format,
     text: &Snapshot,
     grammar: &Gathered,
-) -> Result<bool, FileFault>
-    ensures lacks { IfOk result (spec.LacksGrammar format text.now grammar.now) }
-    ensures fault { IfErr result (λ fault. fault ≡ FileFault.Memory) }
+) -> Result<bool, Memory>
+    ensures { IfOk result (spec.LacksGrammar format text.now grammar.now) }
 {
     match format {
-        Format::Abnf => Ok(counts_of(alloc, text)?.is_no_grammar()),
+        Format::Abnf => Ok(Counts::of(alloc, text)?.is_no_grammar()),
         Format::Markdown | Format::Xml | Format::Text => Ok(is_empty(grammar)),
     }
 }

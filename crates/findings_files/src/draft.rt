@@ -70,23 +70,6 @@ fn no_grammar_line(
     Ok(line)
 }
 
-/// The lines of a file without a grammar, of which this can't be read.
-fn no_grammar_lines(
-    alloc: Global,
-    format: Format,
-    outcome: Outcome,
-    file: &str,
-    draft: &Snapshot,
-    unread: &[Unread],
-) -> Result<String, Memory>
-    ensures { IfOk result (λ lines. string_bytes lines ≡ spec.no_grammar_lines format outcome file.now draft.now unread.now) }
-{
-    let mut lines = no_grammar_line(alloc, format, outcome, file)?;
-    let behind = print_unread(alloc, file, draft, unread)?;
-    lines.push_str(behind.as_str())?;
-    Ok(lines)
-}
-
 /// What is printed of a file of this format without a grammar that went so, of which this can't be read.
 pub(crate) fn print_without(
     alloc: Global,
@@ -95,17 +78,16 @@ pub(crate) fn print_without(
     file: &str,
     draft: &Snapshot,
     unread: &[Unread],
-) -> Result<Printed, FileFault>
-    ensures printed { IfOk result (λ printed. spec.IsPrintedWithout format outcome file.now draft.now unread.now printed) }
-    ensures fault { IfErr result (λ fault. fault ≡ FileFault.Memory) }
+) -> Result<Printed, Memory>
+    ensures { IfOk result (λ printed. spec.IsPrintedWithout format outcome file.now draft.now unread.now printed) }
 {
-    match no_grammar_lines(alloc, format, outcome, file, draft, unread) {
-        Ok(lines) => Ok(Printed {
-            lines: Text::new(lines),
-            outcome,
-        }),
-        Err(_) => Err(FileFault::Memory),
-    }
+    let mut lines = no_grammar_line(alloc, format, outcome, file)?;
+    let behind = print_unread(alloc, file, draft, unread)?;
+    lines.push_str(behind.as_str())?;
+    Ok(Printed {
+        lines: Text::new(lines),
+        outcome,
+    })
 }
 
 /// What is printed of the text of a grammar that is the content of this draft.
@@ -143,10 +125,7 @@ pub(crate) fn print_draft(
     ensures fault { IfErr result (RefusesPrint content.now.grammar) }
 {
     let text = text_of(alloc, &content.grammar)?;
-    match print_text(alloc, file, draft, content, &text) {
-        Ok(printed) => Ok(printed),
-        Err(_) => Err(FileFault::Memory),
-    }
+    Ok(print_text(alloc, file, draft, content, &text)?)
 }
 
 /// What is printed of the rules of a draft or a published text in a file with this name, where this is its grammar: each
@@ -167,8 +146,5 @@ pub(crate) fn print_draft_rules(
     let text = text_of(alloc, grammar)?;
     let none = Repeats::none(alloc);
     let source = Source::Draft(draft, grammar, &none, &[], &[]);
-    match print_rules_from(alloc, file, source, &text) {
-        Ok(lines) => Ok(lines),
-        Err(_) => Err(FileFault::Memory),
-    }
+    Ok(print_rules_from(alloc, file, source, &text)?)
 }

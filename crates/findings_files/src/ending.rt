@@ -5,6 +5,7 @@ ghost use Rattle.std.specs.List.{list_any};
 ghost use Rattle.findings_files.specs.Endings as spec;
 
 use findings_text::Outcome;
+use std::alloc::AllocError;
 use text_files::FileFault;
 
 /// The endings of the program, each with its exit status ([`status`](Ending::status)).
@@ -52,8 +53,20 @@ impl Ending {
     }
 }
 
+impl From<AllocError> for Ending {
+    ghost use Rattle.std.specs.Prelude.{◌≡◌};
+    ghost use Rattle.findings_files.specs.declared.ending.Ending.TheVariants.{OutOfMemory};
+
+    ghost from_gives = { λ e f. f ≡ OutOfMemory };
+
+    /// A refused allocation is [`Ending::OutOfMemory`].
+    fn from(_: AllocError) -> Ending {
+        Ending::OutOfMemory
+    }
+}
+
 /// Whether an argument is an option and no file: it begins with `-`, and more follows.
-pub fn is_option(argument: &str) -> bool
+pub(crate) fn is_option(argument: &str) -> bool
     ensures { result ≡ spec.is_option argument.now }
 {
     match argument.as_bytes() {

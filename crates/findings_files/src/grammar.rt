@@ -15,21 +15,17 @@ use findings_text::{Outcome, Printed};
 use ls_lists::Text;
 use ls_text::Snapshot;
 use origins::Gathered;
-use std::alloc::Global;
+use std::alloc::{AllocError as Memory, Global};
 use text_files::FileFault;
 
 /// The characters of a text, as what is printed.
-fn print_text(text: &Snapshot) -> Result<Printed, FileFault>
-    ensures printed { IfOk result (λ printed. spec.IsPrintedText text.now printed) }
-    ensures fault { IfErr result (λ fault. fault ≡ FileFault.Memory) }
+fn print_text(text: &Snapshot) -> Result<Printed, Memory>
+    ensures { IfOk result (λ printed. spec.IsPrintedText text.now printed) }
 {
-    match text.to_text() {
-        Ok(lines) => Ok(Printed {
-            lines: Text::new(lines),
-            outcome: Outcome::Clean,
-        }),
-        Err(_) => Err(FileFault::Memory),
-    }
+    Ok(Printed {
+        lines: Text::new(text.to_text()?),
+        outcome: Outcome::Clean,
+    })
 }
 
 /// What is printed of the grammar that was gathered from a file of this format.
@@ -44,10 +40,11 @@ fn print_gathered_grammar(
     ensures fault { IfErr result (RefusesPrint grammar.now) }
 {
     if is_empty(grammar) {
-        return print_without(alloc, format, format.outcome_without(), file, text, &[]);
+        let outcome = format.outcome_without();
+        return Ok(print_without(alloc, format, outcome, file, text, &[])?);
     }
     let text = text_of(alloc, grammar)?;
-    print_text(&text)
+    Ok(print_text(&text)?)
 }
 
 /// What is printed of the grammar that is read of a file of this format, or of the fault of a draft in XML.
@@ -62,7 +59,7 @@ fn print_read_grammar(
 {
     match grammar_in(alloc, format, text)? {
         Ok(grammar) => print_gathered_grammar(alloc, file, format, text, &grammar),
-        Err(fault) => print_fault(alloc, file, text, fault),
+        Err(fault) => Ok(print_fault(alloc, file, text, fault)?),
     }
 }
 
@@ -85,7 +82,7 @@ pub fn print_grammar_as(
     ensures fault { IfErr result (IsGrammarPrintRefused format text.now) }
 {
     match format {
-        Format::Abnf => print_text(text),
+        Format::Abnf => Ok(print_text(text)?),
         Format::Markdown | Format::Xml | Format::Text => {
             print_read_grammar(alloc, file, format, text)
         }

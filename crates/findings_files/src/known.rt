@@ -22,7 +22,7 @@ use findings_text::{
 };
 use joined_grammars::{Repeats, joined};
 use ls_lists::{List, Text};
-use ls_text::{Snapshot, TextFault};
+use ls_text::Snapshot;
 use origins::{Gathered, Unread};
 use std::alloc::{AllocError as Memory, Global};
 use std::marker::Model;
@@ -78,10 +78,8 @@ impl Known {
         };
         let printed = print_source(alloc, file, format, text, &content)?;
         let text = text_of(alloc, &content.grammar)?;
-        match self.grammars.push(text) {
-            Ok(()) => Ok(printed),
-            Err(_) => Err(FileFault::Memory),
-        }
+        self.grammars.push(text)?;
+        Ok(printed)
     }
 
     /// The texts of the grammars.
@@ -102,26 +100,6 @@ fn outcome_of(unread: &[Unread]) -> Outcome
     }
 }
 
-/// The lines of what can't be read of a file, and how it went by them.
-fn print_unread_of(
-    alloc: Global,
-    file: &str,
-    draft: &Snapshot,
-    unread: &[Unread],
-) -> Result<Printed, FileFault>
-    ensures lines { IfOk result (λ printed. printed.lines ≡ unread_lines file.now (asides_of draft.now unread.now).0 unread.now) }
-    ensures outcome { IfOk result (λ printed. printed.outcome ≡ outcome_with unread.now []) }
-    ensures fault { IfErr result (λ fault. fault ≡ FileFault.Memory) }
-{
-    match print_unread(alloc, file, draft, unread) {
-        Ok(lines) => Ok(Printed {
-            lines: Text::new(lines),
-            outcome: outcome_of(unread),
-        }),
-        Err(_) => Err(FileFault::Memory),
-    }
-}
-
 /// What is printed of a file whose names are known, of which this is read.
 fn print_source(
     alloc: Global,
@@ -129,15 +107,17 @@ fn print_source(
     format: Format,
     text: &Snapshot,
     content: &Content,
-) -> Result<Printed, FileFault>
-    ensures printed { IfOk result (spec.IsPrintedSource format file.now text.now (Ok content.now)) }
-    ensures fault { IfErr result (λ fault. fault ≡ FileFault.Memory) }
+) -> Result<Printed, Memory>
+    ensures { IfOk result (spec.IsPrintedSource format file.now text.now (Ok content.now)) }
 {
     let unread = content.unread.as_slice();
     if lacks_grammar(alloc, format, text, &content.grammar)? {
         return print_without(alloc, format, Outcome::Warnings, file, text, unread);
     }
-    print_unread_of(alloc, file, text, unread)
+    Ok(Printed {
+        lines: Text::new(print_unread(alloc, file, text, unread)?),
+        outcome: outcome_of(unread),
+    })
 }
 
 /// The text of a grammar with others joined to it.
@@ -145,24 +125,16 @@ fn joined_text(alloc: Global, told: &Snapshot, others: &[Snapshot]) -> Result<Sn
     ensures text { IfOk result (λ text. IsJoined told.now others.now text) }
     ensures fault { IfErr result (λ fault. (fault ≡ FileFault.Memory) ⊎ ((text : Listed ℕ) × IsJoined told.now others.now text × IsTextRefused text fault)) }
 {
-    match joined(alloc, told, others) {
-        Ok(text) => snapshot_of(alloc, text),
-        Err(_) => Err(FileFault::Memory),
-    }
+    snapshot_of(alloc, joined(alloc, told, others)?)
 }
 
 /// The definitions of a text that may be repeated, by the format of the file that it begins with.
-fn repeats_as(alloc: Global, format: Format, text: &Snapshot) -> Result<Repeats, FileFault>
+fn repeats_as(alloc: Global, format: Format, text: &Snapshot) -> Result<Repeats, Memory>
     ensures repeats { IfOk result (λ repeats. spec.AreRepeatsAs format text.now repeats) }
-    ensures fault { IfErr result (λ fault. fault ≡ FileFault.Memory) }
 {
-    let repeats: Result<Repeats, Memory> = match format {
+    match format {
         Format::Abnf => Ok(Repeats::none(alloc)),
         Format::Markdown | Format::Xml | Format::Text => Repeats::of(alloc, text),
-    };
-    match repeats {
-        Ok(repeats) => Ok(repeats),
-        Err(_) => Err(FileFault::Memory),
     }
 }
 
@@ -172,17 +144,12 @@ fn ends_as(
     format: Format,
     draft: &Snapshot,
     grammar: &Gathered,
-) -> Result<List<usize>, FileFault>
+) -> Result<List<usize>, Memory>
     ensures ends { IfOk result (λ ends. ends ≡ spec.ends_as format draft.now grammar.now) }
-    ensures fault { IfErr result (λ fault. fault ≡ FileFault.Memory) }
 {
-    let ends: Result<List<usize>, Memory> = match format {
+    match format {
         Format::Abnf => Ok(List::new(alloc)),
         Format::Markdown | Format::Xml | Format::Text => block_ends(alloc, draft, grammar),
-    };
-    match ends {
-        Ok(ends) => Ok(ends),
-        Err(_) => Err(FileFault::Memory),
     }
 }
 
@@ -197,11 +164,7 @@ fn print_front(
     ensures printed { IfOk result (λ printed. IsPrintedIn told.now (asides_in source.entry) (repeats_in source.entry) (ends_in source.entry) (located source.entry text.now) file.now text.now printed) }
     ensures fault { IfErr result (λ fault. (fault ≡ FileFault.Memory) ⊎ ((fault ≡ FileFault.NotText) × IsFilledTooLarge told.now text.now)) }
 {
-    match print_told(alloc, file, source, told, text) {
-        Ok(printed) => Ok(printed),
-        Err(TextFault::TooLarge) => Err(FileFault::NotText),
-        Err(TextFault::Memory) => Err(FileFault::Memory),
-    }
+    Ok(print_told(alloc, file, source, told, text)?)
 }
 
 /// What is printed of a file of which this is read, with others joined to its grammar.
@@ -238,19 +201,8 @@ fn print_alone(
     ensures fault { IfErr result (spec.AreFindingsRefused [] format content.now.grammar) }
 {
     match format {
-        Format::Abnf => print_grammar(alloc, file, text),
+        Format::Abnf => Ok(print_findings(alloc, file, text)?),
         Format::Markdown | Format::Xml | Format::Text => print_draft(alloc, file, text, content),
-    }
-}
-
-/// What is printed of a file that is a grammar.
-fn print_grammar(alloc: Global, file: &str, text: &Snapshot) -> Result<Printed, FileFault>
-    ensures printed { IfOk result (λ printed. IsPrinted file.now text.now printed) }
-    ensures fault { IfErr result (λ fault. fault ≡ FileFault.Memory) }
-{
-    match print_findings(alloc, file, text) {
-        Ok(printed) => Ok(printed),
-        Err(_) => Err(FileFault::Memory),
     }
 }
 
@@ -286,7 +238,8 @@ fn print_content(
 {
     if lacks_grammar(alloc, format, text, &content.grammar)? {
         let unread = content.unread.as_slice();
-        return print_without(alloc, format, format.outcome_without(), file, text, unread);
+        let outcome = format.outcome_without();
+        return Ok(print_without(alloc, format, outcome, file, text, unread)?);
     }
     print_of(alloc, file, format, text, content, others)
 }
@@ -321,7 +274,7 @@ pub fn print_as(
 {
     match content_in(alloc, format, text)? {
         Ok(content) => print_content(alloc, file, format, text, &content, known.as_slice()),
-        Err(fault) => print_fault(alloc, file, text, fault),
+        Err(fault) => Ok(print_fault(alloc, file, text, fault)?),
     }
 }
 
@@ -340,21 +293,7 @@ fn joined_rules(
     let text = joined_text(alloc, &told, others)?;
     let none = Repeats::none(alloc);
     let source = Source::Draft(draft, grammar, &none, &[], &[]);
-    match print_told_rules(alloc, file, source, &told, &text) {
-        Ok(lines) => Ok(lines),
-        Err(_) => Err(FileFault::Memory),
-    }
-}
-
-/// The lines of the rules of a file that is a grammar.
-fn grammar_rules(alloc: Global, file: &str, text: &Snapshot) -> Result<Text, FileFault>
-    ensures printed { IfOk result (λ lines. ArePrintedRules file.now text.now lines) }
-    ensures fault { IfErr result (λ fault. fault ≡ FileFault.Memory) }
-{
-    match print_rules(alloc, file, text) {
-        Ok(lines) => Ok(lines),
-        Err(_) => Err(FileFault::Memory),
-    }
+    Ok(print_told_rules(alloc, file, source, &told, &text)?)
 }
 
 /// The lines of the rules of a file with this grammar, where no other is known.
@@ -369,7 +308,7 @@ fn rules_alone(
     ensures fault { IfErr result (spec.AreRulesRefused [] format grammar.now) }
 {
     match format {
-        Format::Abnf => grammar_rules(alloc, file, text),
+        Format::Abnf => Ok(print_rules(alloc, file, text)?),
         Format::Markdown | Format::Xml | Format::Text => {
             print_draft_rules(alloc, file, text, grammar)
         }
@@ -429,6 +368,6 @@ pub fn print_rules_as(
             let lines = rules_of(alloc, file, format, text, &grammar, known.as_slice())?;
             Ok(clean(lines))
         }
-        Err(fault) => print_fault(alloc, file, text, fault),
+        Err(fault) => Ok(print_fault(alloc, file, text, fault)?),
     }
 }

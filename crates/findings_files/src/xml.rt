@@ -1,17 +1,16 @@
 //! What is printed of a draft in RFCXML that is at fault.
 
-ghost use Rattle.std.specs.Prelude.{◌≡◌, IfErr, IfOk};
+ghost use Rattle.std.specs.Prelude.{IfOk};
 ghost use Rattle.findings_files.specs.Formats as spec;
 
 use findings_text::{Outcome, Printed, place_text};
 use ls_lists::Text;
 use ls_text::{Encoding, Snapshot};
 use std::alloc::{AllocError as Memory, Global};
-use text_files::FileFault;
 use xml_blocks::XmlFault;
 
 /// What is printed of a draft that is at fault.
-fn printed_fault(
+pub(crate) fn print_fault(
     alloc: Global,
     file: &str,
     draft: &Snapshot,
@@ -29,20 +28,4 @@ fn printed_fault(
         lines: Text::new(lines),
         outcome: Outcome::Errors,
     })
-}
-
-/// What is printed of a draft that is at fault, where memory is refused as of a file.
-pub(crate) fn print_fault(
-    alloc: Global,
-    file: &str,
-    draft: &Snapshot,
-    fault: XmlFault,
-) -> Result<Printed, FileFault>
-    ensures printed { IfOk result (λ printed. spec.IsPrintedFault file.now draft.now fault printed) }
-    ensures fault { IfErr result (λ fault. fault ≡ FileFault.Memory) }
-{
-    match printed_fault(alloc, file, draft, fault) {
-        Ok(printed) => Ok(printed),
-        Err(_) => Err(FileFault::Memory),
-    }
 }

@@ -6,7 +6,7 @@ ghost use Rattle.std.specs.Str.{chars};
 ghost use Rattle.text_files.specs.Files.{IsTextFile};
 
 use ls_text::{MAX_BYTES, Snapshot, TextFault};
-use std::alloc::Global;
+use std::alloc::{AllocError, Global};
 use std::io;
 use std::io::{ErrorKind, Read};
 use thiserror::Error;
@@ -35,6 +35,33 @@ impl FileFault {
             FileFault::Memory
         } else {
             FileFault::CannotRead
+        }
+    }
+}
+
+impl From<AllocError> for FileFault {
+    ghost use Rattle.std.specs.Prelude.{◌≡◌};
+    ghost use Rattle.text_files.specs.declared.file.FileFault.TheVariants.{Memory};
+
+    ghost from_gives = { λ e f. f ≡ Memory };
+
+    /// A refused allocation is [`FileFault::Memory`].
+    fn from(_: AllocError) -> FileFault {
+        FileFault::Memory
+    }
+}
+
+impl From<TextFault> for FileFault {
+    ghost use Rattle.std.specs.Prelude.{◌≡◌};
+    ghost use Rattle.text_files.specs.Files.{fault_of_text};
+
+    ghost from_gives = { λ e f. f ≡ fault_of_text e };
+
+    /// A text that is too large is no text of a file.
+    fn from(fault: TextFault) -> FileFault {
+        match fault {
+            TextFault::TooLarge => FileFault::NotText,
+            TextFault::Memory => FileFault::Memory,
         }
     }
 }
@@ -84,9 +111,5 @@ fn text_of(alloc: Global, bytes: Vec<u8>) -> Result<Snapshot, FileFault>
     let Ok(text) = String::from_utf8(bytes) else {
         return Err(FileFault::NotText);
     };
-    match Snapshot::of_text(alloc, text) {
-        Ok(snapshot) => Ok(snapshot),
-        Err(TextFault::TooLarge) => Err(FileFault::NotText),
-        Err(TextFault::Memory) => Err(FileFault::Memory),
-    }
+    Ok(Snapshot::of_text(alloc, text)?)
 }

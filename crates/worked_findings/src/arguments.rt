@@ -1,7 +1,6 @@
 //! Arguments, and what they ask for.
 
-use findings_arguments::{Arguments, Asked, Request, help, request_of};
-use findings_files::{Ending, Format, Text};
+use findings_files::{Arguments, Asked, Ending, Format, Request, Text, help, request_of};
 use ls_lists::List;
 use std::alloc::{AllocError, Global};
 

@@ -62,9 +62,7 @@ fn is_counted(
         rules,
     };
     let text = snapshot(alloc, text)?;
-    let Ok(counts) = Counts::of(alloc, &text) else {
-        return Err(FileFault::Memory);
-    };
+    let counts = Counts::of(alloc, &text)?;
     Ok(
         counts == wanted
             && counts.are_rules_alone() == are_rules_alone

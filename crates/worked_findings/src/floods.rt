@@ -224,9 +224,7 @@ const WHOLE: &[Row] = &[
 fn joined(alloc: Global, pieces: &[&str]) -> Result<String, FileFault> {
     let mut text = String::new(alloc);
     for piece in pieces {
-        if text.push_str(piece).is_err() {
-            return Err(FileFault::Memory);
-        }
+        text.push_str(piece)?;
     }
     Ok(text)
 }

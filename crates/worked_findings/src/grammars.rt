@@ -95,10 +95,7 @@ fn messages(alloc: Global, format: Format, text: &str) -> Result<String, FileFau
     let text = snapshot(alloc, text)?;
     let none = known_of(alloc, &[])?;
     let printed = print_as(alloc, "f", format, &text, &none)?;
-    match without_places(alloc, &printed.lines) {
-        Ok(found) => Ok(found),
-        Err(_) => Err(FileFault::Memory),
-    }
+    Ok(without_places(alloc, &printed.lines)?)
 }
 
 /// Lines without what stands before the first blank of each.

@@ -3,7 +3,7 @@
 use crate::texts::snapshot;
 use findings_files::{FileFault, Snapshot};
 use joined_grammars::joined;
-use std::alloc::Global;
+use std::alloc::{AllocError, Global};
 
 /// A text, other texts, and what is joined of them.
 type Row = (&'static str, &'static [&'static str], &'static str);
@@ -57,10 +57,9 @@ const JOINS: &[Row] = &[
 fn snapshots(alloc: Global, texts: &[&str]) -> Result<Vec<Snapshot>, FileFault> {
     let mut found = Vec::new(alloc);
     for text in texts {
-        let text = snapshot(alloc, text)?;
-        if found.push(text).is_err() {
-            return Err(FileFault::Memory);
-        }
+        found
+            .push(snapshot(alloc, text)?)
+            .map_err(AllocError::from)?;
     }
     Ok(found)
 }
@@ -69,10 +68,7 @@ fn snapshots(alloc: Global, texts: &[&str]) -> Result<Vec<Snapshot>, FileFault> 
 fn joined_of(alloc: Global, told: &str, others: &[&str]) -> Result<String, FileFault> {
     let told = snapshot(alloc, told)?;
     let others = snapshots(alloc, others)?;
-    match joined(alloc, &told, others.as_slice()) {
-        Ok(text) => Ok(text),
-        Err(_) => Err(FileFault::Memory),
-    }
+    Ok(joined(alloc, &told, others.as_slice())?)
 }
 
 #[test]

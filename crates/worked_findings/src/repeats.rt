@@ -62,10 +62,7 @@ fn repeat_at(repeats: &Repeats, line: usize) -> Option<(usize, bool)> {
 /// The repeats of a text.
 fn repeats_of(alloc: Global, text: &str) -> Result<Repeats, FileFault> {
     let text = snapshot(alloc, text)?;
-    match Repeats::of(alloc, &text) {
-        Ok(repeats) => Ok(repeats),
-        Err(_) => Err(FileFault::Memory),
-    }
+    Ok(Repeats::of(alloc, &text)?)
 }
 
 #[test]

@@ -1,7 +1,6 @@
 //! Texts and files of the rows.
 
 use findings_files::{FileFault, Format, Known, Printed, Snapshot, print_as};
-use ls_text::TextFault;
 use origins::Gathered;
 use std::alloc::Global;
 
@@ -10,14 +9,7 @@ pub type File = (Format, &'static str);
 
 /// The snapshot of a text.
 pub fn snapshot(alloc: Global, text: &str) -> Result<Snapshot, FileFault> {
-    let Ok(text) = String::from_str(alloc, text) else {
-        return Err(FileFault::Memory);
-    };
-    match Snapshot::of_text(alloc, text) {
-        Ok(text) => Ok(text),
-        Err(TextFault::TooLarge) => Err(FileFault::NotText),
-        Err(TextFault::Memory) => Err(FileFault::Memory),
-    }
+    Ok(Snapshot::of_text(alloc, String::from_str(alloc, text)?)?)
 }
 
 /// The files whose names are known.

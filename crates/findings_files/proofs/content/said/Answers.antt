@@ -5,7 +5,7 @@ use Rattle.origins.specs.declared.unread.Unread.{Unread}
 use Rattle.findings_files.specs.Contents.{AreRemarked, IsSaid}
 use Rattle.findings_files.proofs.ContentLaws.{said_more}
 use Rattle.findings_files.proofs.content.said.Goals as goal
-use Rattle.findings_files.proofs.content.said.Goals.{else-branch, then-branch+in_ok-put}
+use Rattle.findings_files.proofs.content.said.Goals.{else-branch, then-branch+in_ok-push}
 
 pub loop-aside-preserved : goal.loop-aside-preserved
 loop-aside-preserved c =
@@ -18,10 +18,10 @@ loop-aside-preserved c =
     let was = c.loop-aside.invariant in
     let says = c.in_ok-is_said.ensures.says in
     elim c.if-branch.branch [
-      | then-branch+in_ok-put w ↦
+      | then-branch+in_ok-push w ↦
           let is = subst (λ b. IsSaid aside.unread.lack (characters aside.text) b) w.if-branch.true says in
           let are : AreRemarked (before ++ aside ∷ []) (c.loop-aside.said ++ aside.unread ∷ []) = said_more before aside true c.loop-aside.said was is in
-          rw (next, w.said-is, w.in_ok-put.ensures.put) are
+          rw (next, w.said-is, w.in_ok-push.ensures.ok) are
       | else-branch w ↦
           let is = subst (λ b. IsSaid aside.unread.lack (characters aside.text) b) w.if-branch.false says in
           let are : AreRemarked (before ++ aside ∷ []) (c.loop-aside.said ++ []) = said_more before aside false c.loop-aside.said was is in

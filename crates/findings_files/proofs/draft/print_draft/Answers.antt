@@ -5,9 +5,9 @@ use Rattle.findings_text.specs.Unread.{asides_of}
 use Rattle.findings_files.specs.Drafts.{IsPrintedRepeating}
 use Rattle.findings_files.proofs.draft.print_draft.Goals as goal
 
-pub returns-in-Ok-clause-printed : goal.returns-in-Ok-clause-printed
-returns-in-Ok-clause-printed c =
+pub returns-clause-printed : goal.returns-clause-printed
+returns-clause-printed c =
     let draft = c.args.draft.now in
     let content = c.args.content.now in
-    subst (λ (text : List ℕ). IsPrintedRepeating (asides_of draft content.unread) (block_ends draft content.grammar) (position_in_draft draft content.grammar text) c.args.file.now text c.in-Ok.printed)
-    c.in_ok-text.ensures.text c.in-Ok.ensures
+    subst (λ (text : List ℕ). IsPrintedRepeating (asides_of draft content.unread) (block_ends draft content.grammar) (position_in_draft draft content.grammar text) c.args.file.now text c.in_ok-print_text.field-0)
+    c.in_ok-text.ensures.text c.in_ok-print_text.ensures

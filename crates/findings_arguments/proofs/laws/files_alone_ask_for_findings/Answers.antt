@@ -1,5 +1,0 @@
-use Rattle.findings_arguments.proofs.ArgumentLaws.{files_alone}
-use Rattle.findings_arguments.proofs.laws.files_alone_ask_for_findings.Goals as goal
-
-pub returns : goal.returns
-returns c = files_alone

@@ -1,5 +1,0 @@
-use Rattle.std.proofs.Common.{rules}
-use Rattle.findings_arguments.proofs.step.with_step.Goals as goal
-
-pub returns : goal.returns
-returns = search rules depth 3

@@ -1,0 +1,5 @@
+use Rattle.std.proofs.Common.{rules}
+use Rattle.findings_files.proofs.step.with_step.Goals as goal
+
+pub returns : goal.returns
+returns = search rules depth 3
