@@ -8,9 +8,10 @@ An edit has the form of a must-fail edit of `rt`: a line 'file: PATH', then pair
 
 Edits that change bodies of functions alone are tried together on one copy of the crate: a function is proved against the contracts of what
 it calls, and no such edit changes one. Each is made in a twin of its function, which is the function once more by another name. Of these
-functions the longest, and each whose answers name the proof of another one, must be proved in that very copy as it stands. All others are
-left out, with a body that never returns and a hole in place of a proof, but for one that stays whole as a witness. Where a function can
-have no twin, as in an impl of a trait, the edit comes on a further copy, and the function stands whole in the first. An edit of anything
+functions those whose turn it is, each on one day in thirty, or else the next, and each whose answers name the proof of another one, must be
+proved in that very copy as they stand. All others are left out, with a body that never returns and a hole in place of a proof, but for one
+that stays whole as a witness. Where a function can have no twin, as in an impl of a trait, the edit comes on a further copy, and the
+function stands whole in the first. An edit of anything
 else (a definition, a contract) comes on a copy by itself, of which the functions that it names are checked in the same way, and stand whole
 in the first copy too; or all are checked.
 

@@ -342,8 +342,8 @@ def made_crate(store=None, is_kept=False, is_unedited=False, **provers_faults):
         given = argparse.Namespace(names=[], unedited=is_unedited, kept=is_kept, log=None, top=at)
         checks.run, checks.MEMORY = Prover(**provers_faults).checked, argparse.Namespace(of=lambda crate: contextlib.nullcontext())
         try:
-            # (which functions have their turn is no matter of the day here)
-            with mock.patch.object(copies, "is_its_turn", lambda name: False):
+            # (which function has its turn next is no matter of the day here)
+            with mock.patch.object(copies, "days_left", lambda name: 1 if name == "f" else 2):
                 yield Trial(Crate(f"{at}/made"), given, store or NoStore(), f"{at}/same/made")
         finally:
             checks.run, checks.MEMORY = was
@@ -363,8 +363,9 @@ def played():
 
 
 def controls():
-    """Of the functions with twins the longest is proved as it stands, and each whose answers name the proof of another one."""
-    cited = {"": {"f"}, "Laws.{law}": {"f"}, "g.Goals as goal": {"f"}, "h.Met.{met}": {"f", "g"}, "low.h.Met.{met}": {"f", "g"}}
+    """Of the functions with twins those are proved as they stand whose turn comes next, and each whose answers name the proof of another."""
+    others = {"f", "g"}
+    cited = {"": {"f"}, "Laws.{law}": {"f"}, "g.Goals as goal": {"f"}, "h.Met.{met}": others, "low.h.Met.{met}": others}
     for name, wanted in cited.items():
         with made_crate() as trial:
             for function, text in (("f", "-- a long proof\n" * 9), ("g", f"use Rattle.made.proofs.{name}\n" if name else "")):
@@ -382,12 +383,19 @@ def controls():
     shown = []
     for day in range(copies.DAYS):
         with mock.patch.object(copies, "today", lambda day=day: day):
-            shown += [it for it in ("f", "g", "walks", "Pair::turns", "scan::longest") if copies.is_its_turn(it)]
+            shown += [it for it in ("f", "g", "walks", "Pair::turns", "scan::longest") if not copies.days_left(it)]
     yield "the days of controls", sorted(shown), ["Pair::turns", "f", "g", "scan::longest", "walks"]
+    first, next_day = "f", 0
+    with mock.patch.object(copies, "today", lambda: 0):
+        next_day = copies.days_left(first)
+    with mock.patch.object(copies, "today", lambda: next_day):
+        yield "the day of a control", copies.days_left(first), 0
     with made_crate() as trial:
         twins = trial.maker.shared_out([it for it in trial.edits if it.functions], set())[0]
-        with mock.patch.object(copies, "is_its_turn", lambda name: name == "g"):
+        with mock.patch.object(copies, "days_left", lambda name: 0 if name in ("f", "g") else 7):
             yield "the controls of a day", trial.maker.controls(twins), {"f", "g"}
+        with mock.patch.object(copies, "days_left", lambda name: {"f": 9, "g": 3}.get(name, 7)):
+            yield "the control of a day on which none has its turn", trial.maker.controls(twins), {"g"}
 
 
 LAWS = "pub fn first()\n    ensures { word ≡ 1 }\n{}\n\npub fn second()\n    ensures { word ≡ word }\n    ensures { 1 ≡ 1 }\n{}\n"

@@ -47,9 +47,9 @@ def today():
     return int(time.time()) // 86_400
 
 
-def is_its_turn(name):
-    """Whether a function with twins is to be shown as it stands today: each is, once in so many days."""
-    return (zlib.crc32(name.encode()) + today()) % DAYS == 0
+def days_left(name):
+    """In how many days a function with twins is to be shown as it stands: each is, once in so many days."""
+    return -(zlib.crc32(name.encode()) + today()) % DAYS
 
 
 class Copy:
@@ -176,16 +176,16 @@ class Maker:
             write(f"{at}/Proof.antt", HOLE.format(crate=source.name, module=name.replace("::", "."), name=short))
 
     def controls(self, made):
-        """Those of the functions with twins that stand as they are beside these, and must be proved: the one that is longest with its proof, and
-        those whose turn it is today.
+        """Those of the functions with twins that stand as they are beside these, and must be proved: those whose turn it is today, or else the
+        one whose turn comes next.
 
         A twin is made of its function's body and answers, of contracts, definitions and lemmas. All these but the edit stand in the copy as
         they are, so what is proved in the crate is proved here: unless answers name the proof of another function, which is left out. So each
         function with such answers is a control too.
         """
         bases = sorted(made.bases())
-        longest = sorted(bases, key=self.source.length)[-1:]
-        return {*longest, *(it for it in bases if self.source.rests_on_others(it) or is_its_turn(it))}
+        soonest = min(map(days_left, bases), default=0)
+        return {it for it in bases if self.source.rests_on_others(it) or days_left(it) == soonest}
 
     def witness(self, functions):
         """A function beside these that a copy leaves whole, so that it must be proved there: that with the shortest body of some lines, or in a

@@ -99,10 +99,6 @@ class Source:
         """The bodies of the functions that are proved by themselves, by name."""
         return {it.name: it.body() for it in self.all() if it.is_own and it.has_body()}
 
-    def length(self, name):
-        """How much there is to check of a function, by a guess: its body, and the files of its proof."""
-        return len(self.bodies()[name]) + self.proof_length(name)
-
     def proof_length(self, name):
         return sum(map(len, self.proofs_of(name).values()))
 
