@@ -19,6 +19,7 @@ from unittest import mock
 import comments
 import counts
 import documents
+import layout
 import must_not_compile
 import program_ends
 import refused_edits
@@ -288,6 +289,24 @@ def gate_stages():
             yield f"the gate: status {status} behind {line!r}", (ended.stdout.splitlines(), ended.returncode), (said, status)
 
 
+# A file of a crate, and how the look at its layout ends; None where there is no such file.
+LAYOUTS = (
+    ("pub fn one() -> u8 {\n    1\n}\n", 0),
+    ("pub fn one() -> u8 { 1 }\n", 1),
+    (None, 1),
+)
+
+
+def layout_stages():
+    """A file that isn't in the layout is found, and so is that there is none to look at."""
+    for text, status in LAYOUTS:
+        with tempfile.TemporaryDirectory() as top:
+            os.makedirs(f"{top}/crates/made/src")
+            if text:
+                write(f"{top}/crates/made/src/lib.rt", text)
+            yield f"layout: {text!r}", ends_with(layout.main, top)[1], status
+
+
 def told_stages():
     """A tool of rows fails where a row does, and where there is none."""
     for found, ends in (((), 1), ((("a", 1, 1),), 0), ((("a", 1, 1), ("b", 1, 2)), 1)):
@@ -295,7 +314,7 @@ def told_stages():
 
 
 def cases():
-    for some in (edit_stages, compile_stages, sum_stages, run_stages, test_stages, line_stages, told_stages, gate_stages):
+    for some in (edit_stages, compile_stages, sum_stages, run_stages, test_stages, line_stages, layout_stages, told_stages, gate_stages):
         yield from some()
 
 

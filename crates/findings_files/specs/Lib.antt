@@ -4,6 +4,6 @@ pub mod Drafts
 pub mod Endings
 pub mod Formats
 pub mod Grammars
+pub mod Help
 pub mod Known
 pub mod Texts
-pub mod own

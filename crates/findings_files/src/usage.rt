@@ -1,7 +1,7 @@
 //! How the program is used.
 
 ghost use Rattle.std.specs.Prelude.{◌≡◌, IfOk, OnOk, map, string_bytes};
-ghost use Rattle.findings_files.specs.own.Help as spec;
+ghost use Rattle.findings_files.specs.Help as spec;
 
 use crate::ending::Ending;
 use ls_lists::Text;

@@ -2,7 +2,7 @@ use Rattle.std.proofs.Common.{◌≡◌, ◌∷◌, map, take}
 use Rattle.std.specs.Prelude.{string_bytes}
 use Rattle.findings_files.specs.declared.ending.Ending.TheVariants.{Usage}
 use Rattle.findings_files.specs.Endings.{line_of}
-use Rattle.findings_files.specs.own.Help.{with_lines}
+use Rattle.findings_files.specs.Help.{with_lines}
 use Rattle.findings_files.proofs.usage.help.Given as goal
 
 abbrev pub invariant-loop-line : goal.invariant-loop-line
