@@ -166,8 +166,9 @@ fn ask(alloc: Global, words: &[&str], wanted: Wanted) -> Result<bool, AllocError
 
 #[test]
 fn read_what_is_told(rt: HostRuntime) -> Result<(), AllocError> {
-    assert!(rt; PLAIN.len() >= 12);
-    for (words, wanted) in PLAIN {
+    let rows = PLAIN;
+    assert!(rt; rows.len() >= 12);
+    for (words, wanted) in rows {
         assert!(rt; ask(rt.alloc(), words, *wanted)?);
     }
     Ok(())
@@ -175,8 +176,9 @@ fn read_what_is_told(rt: HostRuntime) -> Result<(), AllocError> {
 
 #[test]
 fn end_at_help_and_version(rt: HostRuntime) -> Result<(), AllocError> {
-    assert!(rt; ENDS.len() >= 6);
-    for (words, wanted) in ENDS {
+    let rows = ENDS;
+    assert!(rt; rows.len() >= 6);
+    for (words, wanted) in rows {
         assert!(rt; ask(rt.alloc(), words, *wanted)?);
     }
     Ok(())
@@ -184,8 +186,9 @@ fn end_at_help_and_version(rt: HostRuntime) -> Result<(), AllocError> {
 
 #[test]
 fn refuse_what_is_wrong(rt: HostRuntime) -> Result<(), AllocError> {
-    assert!(rt; WRONG.len() >= 28);
-    for (words, wanted) in WRONG {
+    let rows = WRONG;
+    assert!(rt; rows.len() >= 28);
+    for (words, wanted) in rows {
         assert!(rt; ask(rt.alloc(), words, *wanted)?);
     }
     Ok(())

@@ -72,16 +72,19 @@ fn is_counted(
 
 #[test]
 fn counts_blocks(rt: HostRuntime) -> Result<(), FileFault> {
-    assert!(rt; RULES.len() >= 4);
-    for row in RULES {
+    let rows = RULES;
+    assert!(rt; rows.len() >= 4);
+    for row in rows {
         assert!(rt; is_counted(rt.alloc(), *row, true, false)?, "{}", row.0);
     }
-    assert!(rt; NO_GRAMMAR.len() >= 4);
-    for row in NO_GRAMMAR {
+    let rows = NO_GRAMMAR;
+    assert!(rt; rows.len() >= 4);
+    for row in rows {
         assert!(rt; is_counted(rt.alloc(), *row, false, true)?, "{}", row.0);
     }
-    assert!(rt; OTHERS.len() >= 10);
-    for row in OTHERS {
+    let rows = OTHERS;
+    assert!(rt; rows.len() >= 10);
+    for row in rows {
         assert!(rt; is_counted(rt.alloc(), *row, false, false)?, "{}", row.0);
     }
     Ok(())

@@ -229,26 +229,29 @@ fn joined(alloc: Global, pieces: &[&str]) -> Result<String, FileFault> {
     Ok(text)
 }
 
+/// Whether these pieces are printed of a file, and among them an error.
+fn prints(alloc: Global, file: File, files: &[File], pieces: &[&str]) -> Result<bool, FileFault> {
+    let found = printed(alloc, file, files)?;
+    let wanted = joined(alloc, pieces)?;
+    Ok(found.lines.as_str() == wanted.as_str() && found.outcome == Outcome::Errors)
+}
+
 #[test]
 fn tells_the_first_of_many_faults(rt: HostRuntime) -> Result<(), FileFault> {
-    assert!(rt; FLOODS.len() >= 11);
-    for (file, files, pieces) in FLOODS {
-        let found = printed(rt.alloc(), *file, files)?;
-        let wanted = joined(rt.alloc(), pieces)?;
-        assert!(rt; found.lines.as_str() == wanted.as_str(), "{}", file.1);
-        assert!(rt; found.outcome == Outcome::Errors, "{}", file.1);
+    let rows = FLOODS;
+    assert!(rt; rows.len() >= 11);
+    for (file, files, pieces) in rows {
+        assert!(rt; prints(rt.alloc(), *file, files, pieces)?, "{}", file.1);
     }
     Ok(())
 }
 
 #[test]
 fn tells_few_faults_one_by_one(rt: HostRuntime) -> Result<(), FileFault> {
-    assert!(rt; WHOLE.len() >= 5);
-    for (file, files, pieces) in WHOLE {
-        let found = printed(rt.alloc(), *file, files)?;
-        let wanted = joined(rt.alloc(), pieces)?;
-        assert!(rt; found.lines.as_str() == wanted.as_str(), "{}", file.1);
-        assert!(rt; found.outcome == Outcome::Errors, "{}", file.1);
+    let rows = WHOLE;
+    assert!(rt; rows.len() >= 5);
+    for (file, files, pieces) in rows {
+        assert!(rt; prints(rt.alloc(), *file, files, pieces)?, "{}", file.1);
     }
     Ok(())
 }

@@ -118,19 +118,22 @@ const CLEAN: &[Row] = &[
 
 #[test]
 fn tells_which_rules_lead_to_gaps(rt: HostRuntime) -> Result<(), FileFault> {
-    assert!(rt; GAPS.len() >= 9);
-    for (file, files, lines) in GAPS {
+    let rows = GAPS;
+    assert!(rt; rows.len() >= 9);
+    for (file, files, lines) in rows {
         let found = printed(rt.alloc(), *file, files)?;
         assert!(rt; found.lines.as_str() == *lines, "{}", file.1);
         assert!(rt; found.outcome != Outcome::Clean, "{}", file.1);
     }
-    assert!(rt; OTHERS.len() >= 3);
-    for (file, files, lines) in OTHERS {
+    let rows = OTHERS;
+    assert!(rt; rows.len() >= 3);
+    for (file, files, lines) in rows {
         let found = printed(rt.alloc(), *file, files)?;
         assert!(rt; found.lines.as_str() == *lines, "{}", file.1);
     }
-    assert!(rt; CLEAN.len() >= 3);
-    for (file, files, lines) in CLEAN {
+    let rows = CLEAN;
+    assert!(rt; rows.len() >= 3);
+    for (file, files, lines) in rows {
         let found = printed(rt.alloc(), *file, files)?;
         assert!(rt; found.lines.as_str() == *lines, "{}", file.1);
         assert!(rt; found.outcome == Outcome::Clean, "{}", file.1);

@@ -112,8 +112,9 @@ fn without_places(alloc: Global, lines: &Text) -> Result<String, std::alloc::All
 
 #[test]
 fn prints_grammars(rt: HostRuntime) -> Result<(), FileFault> {
-    assert!(rt; GRAMMARS.len() >= 10);
-    for (file, text, outcome) in GRAMMARS {
+    let rows = GRAMMARS;
+    assert!(rt; rows.len() >= 10);
+    for (file, text, outcome) in rows {
         let found = printed_grammar(rt.alloc(), *file)?;
         assert!(rt; found.lines.as_str() == *text, "{}", file.1);
         assert!(rt; found.outcome == *outcome, "{}", file.1);
@@ -123,8 +124,9 @@ fn prints_grammars(rt: HostRuntime) -> Result<(), FileFault> {
 
 #[test]
 fn grammars_have_the_findings_of_their_drafts(rt: HostRuntime) -> Result<(), FileFault> {
-    assert!(rt; DRAFTS.len() >= 3);
-    for (format, text) in DRAFTS {
+    let rows = DRAFTS;
+    assert!(rt; rows.len() >= 3);
+    for (format, text) in rows {
         let of_draft = messages(rt.alloc(), *format, text)?;
         assert!(rt; !of_draft.is_empty(), "{text}");
         let grammar = printed_grammar(rt.alloc(), (*format, text))?;

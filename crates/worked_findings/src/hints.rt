@@ -42,8 +42,9 @@ const ROWS: &[Row] = &[
 
 #[test]
 fn tells_near_names(rt: HostRuntime) -> Result<(), TextFault> {
-    assert!(rt; ROWS.len() >= 7);
-    for (text, lines) in ROWS {
+    let rows = ROWS;
+    assert!(rt; rows.len() >= 7);
+    for (text, lines) in rows {
         let text = Snapshot::of_text(rt.alloc(), String::from_str(rt.alloc(), text)?)?;
         let printed = print_findings(rt.alloc(), "f", &text)?;
         assert!(rt; printed.lines.as_str() == *lines, "{lines}");

@@ -73,8 +73,9 @@ fn joined_of(alloc: Global, told: &str, others: &[&str]) -> Result<String, FileF
 
 #[test]
 fn joins_rules(rt: HostRuntime) -> Result<(), FileFault> {
-    assert!(rt; JOINS.len() >= 13);
-    for (told, others, text) in JOINS {
+    let rows = JOINS;
+    assert!(rt; rows.len() >= 13);
+    for (told, others, text) in rows {
         let found = joined_of(rt.alloc(), told, others)?;
         assert!(rt; found.as_str() == *text, "{told}");
     }

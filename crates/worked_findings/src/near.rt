@@ -39,8 +39,9 @@ const ROWS: &[Row] = &[
 
 #[test]
 fn tells_the_nearest(rt: HostRuntime) -> Result<(), AllocError> {
-    assert!(rt; ROWS.len() >= 23);
-    for (name, known, meant) in ROWS {
+    let rows = ROWS;
+    assert!(rt; rows.len() >= 23);
+    for (name, known, meant) in rows {
         assert!(rt; nearest(rt.alloc(), name, known)? == *meant, "{name}");
     }
     Ok(())

@@ -61,8 +61,9 @@ const GRAMMARS: &[File] = &[
 
 #[test]
 fn says_that_a_text_is_no_grammar(rt: HostRuntime) -> Result<(), FileFault> {
-    assert!(rt; NO_GRAMMAR.len() >= 4);
-    for text in NO_GRAMMAR {
+    let rows = NO_GRAMMAR;
+    assert!(rt; rows.len() >= 4);
+    for text in rows {
         let alone = printed(rt.alloc(), (Format::Abnf, *text), &[])?;
         assert!(rt; alone.lines.as_str() == ERROR, "{text}");
         assert!(rt; alone.outcome == Outcome::Errors, "{text}");
@@ -75,8 +76,9 @@ fn says_that_a_text_is_no_grammar(rt: HostRuntime) -> Result<(), FileFault> {
 
 #[test]
 fn tells_the_faults_of_a_grammar(rt: HostRuntime) -> Result<(), FileFault> {
-    assert!(rt; FAULTY.len() >= 3);
-    for (text, lines) in FAULTY {
+    let rows = FAULTY;
+    assert!(rt; rows.len() >= 3);
+    for (text, lines) in rows {
         let alone = printed(rt.alloc(), (Format::Abnf, *text), &[])?;
         assert!(rt; alone.lines.as_str() == *lines, "{text}");
         let joined = printed(rt.alloc(), (Format::Abnf, *text), &[CORE])?;
@@ -87,14 +89,16 @@ fn tells_the_faults_of_a_grammar(rt: HostRuntime) -> Result<(), FileFault> {
 
 #[test]
 fn warns_of_known_texts_that_are_no_grammar(rt: HostRuntime) -> Result<(), FileFault> {
-    assert!(rt; KNOWN.len() >= 4);
-    for file in KNOWN {
+    let rows = KNOWN;
+    assert!(rt; rows.len() >= 4);
+    for file in rows {
         let found = added(rt.alloc(), *file)?;
         assert!(rt; found.lines.as_str() == WARNING, "{}", file.1);
         assert!(rt; found.outcome == Outcome::Warnings, "{}", file.1);
     }
-    assert!(rt; GRAMMARS.len() >= 4);
-    for file in GRAMMARS {
+    let rows = GRAMMARS;
+    assert!(rt; rows.len() >= 4);
+    for file in rows {
         let found = added(rt.alloc(), *file)?;
         assert!(rt; found.lines.as_str() == "", "{}", file.1);
         assert!(rt; found.outcome == Outcome::Clean, "{}", file.1);

@@ -102,8 +102,9 @@ const NAMES: &[(&'static str, Option<Format>)] = &[
 
 #[test]
 fn tells_what_is_found_in_published_texts(rt: HostRuntime) -> Result<(), FileFault> {
-    assert!(rt; TEXTS.len() >= 9);
-    for (text, files, lines, outcome) in TEXTS {
+    let rows = TEXTS;
+    assert!(rt; rows.len() >= 9);
+    for (text, files, lines, outcome) in rows {
         let found = printed(rt.alloc(), (Format::Text, *text), files)?;
         assert!(rt; found.lines.as_str() == *lines, "{text}");
         assert!(rt; found.outcome == *outcome, "{text}");
@@ -113,12 +114,14 @@ fn tells_what_is_found_in_published_texts(rt: HostRuntime) -> Result<(), FileFau
 
 #[test]
 fn reads_files_by_their_endings(rt: HostRuntime) -> Result<(), FileFault> {
-    assert!(rt; FILES.len() >= 17);
-    for (name, format) in FILES {
+    let rows = FILES;
+    assert!(rt; rows.len() >= 17);
+    for (name, format) in rows {
         assert!(rt; Format::of_file(name) == *format, "{name}");
     }
-    assert!(rt; NAMES.len() >= 8);
-    for (name, format) in NAMES {
+    let rows = NAMES;
+    assert!(rt; rows.len() >= 8);
+    for (name, format) in rows {
         assert!(rt; Format::named(name) == *format, "{name}");
     }
     Ok(())

@@ -179,8 +179,9 @@ fn is_found(alloc: Global, row: Row) -> Result<bool, TextFault> {
 
 #[test]
 fn finds_runs_of_rules(rt: HostRuntime) -> Result<(), TextFault> {
-    assert!(rt; RUNS.len() >= 17);
-    for row in RUNS {
+    let rows = RUNS;
+    assert!(rt; rows.len() >= 17);
+    for row in rows {
         assert!(rt; is_found(rt.alloc(), *row)?, "{}", row.0);
     }
     Ok(())
@@ -188,8 +189,9 @@ fn finds_runs_of_rules(rt: HostRuntime) -> Result<(), TextFault> {
 
 #[test]
 fn leaves_page_breaks_out(rt: HostRuntime) -> Result<(), TextFault> {
-    assert!(rt; PAGES.len() >= 13);
-    for row in PAGES {
+    let rows = PAGES;
+    assert!(rt; rows.len() >= 13);
+    for row in rows {
         assert!(rt; is_found(rt.alloc(), *row)?, "{}", row.0);
     }
     Ok(())

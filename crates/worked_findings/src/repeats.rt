@@ -67,8 +67,9 @@ fn repeats_of(alloc: Global, text: &str) -> Result<Repeats, FileFault> {
 
 #[test]
 fn finds_repeats(rt: HostRuntime) -> Result<(), FileFault> {
-    assert!(rt; REPEATS.len() >= 7);
-    for (text, wanted) in REPEATS {
+    let rows = REPEATS;
+    assert!(rt; rows.len() >= 7);
+    for (text, wanted) in rows {
         let repeats = repeats_of(rt.alloc(), text)?;
         for (line, repeat) in wanted.iter().enumerate() {
             assert!(rt; repeat_at(&repeats, line) == *repeat, "{text}: {line}");

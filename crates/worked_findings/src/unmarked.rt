@@ -77,8 +77,9 @@ const CLEAN: &[File] = &[
 
 #[test]
 fn tells_rules_that_nothing_marks(rt: HostRuntime) -> Result<(), FileFault> {
-    assert!(rt; UNMARKED.len() >= 4);
-    for (file, files, lines) in UNMARKED {
+    let rows = UNMARKED;
+    assert!(rt; rows.len() >= 4);
+    for (file, files, lines) in rows {
         let found = printed(rt.alloc(), *file, files)?;
         assert!(rt; found.lines.as_str() == *lines, "{}", file.1);
         assert!(rt; found.outcome == Outcome::Warnings, "{}", file.1);
@@ -88,8 +89,9 @@ fn tells_rules_that_nothing_marks(rt: HostRuntime) -> Result<(), FileFault> {
 
 #[test]
 fn says_nothing_of_other_blocks(rt: HostRuntime) -> Result<(), FileFault> {
-    assert!(rt; CLEAN.len() >= 6);
-    for file in CLEAN {
+    let rows = CLEAN;
+    assert!(rt; rows.len() >= 6);
+    for file in rows {
         let alone = printed(rt.alloc(), *file, &[])?;
         assert!(rt; alone.lines.as_str() == "", "{}", file.1);
         assert!(rt; alone.outcome == Outcome::Clean, "{}", file.1);

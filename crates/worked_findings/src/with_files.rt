@@ -264,8 +264,9 @@ fn printed_rules(alloc: Global, file: File, files: &[File]) -> Result<Printed, F
 
 #[test]
 fn knows_names(rt: HostRuntime) -> Result<(), FileFault> {
-    assert!(rt; CLEAN.len() >= 12);
-    for (file, files, lines) in CLEAN {
+    let rows = CLEAN;
+    assert!(rt; rows.len() >= 12);
+    for (file, files, lines) in rows {
         let found = printed(rt.alloc(), *file, files)?;
         assert!(rt; found.lines.as_str() == *lines, "{}", file.1);
         assert!(rt; found.outcome == Outcome::Clean, "{}", file.1);
@@ -275,8 +276,9 @@ fn knows_names(rt: HostRuntime) -> Result<(), FileFault> {
 
 #[test]
 fn tells_what_is_found(rt: HostRuntime) -> Result<(), FileFault> {
-    assert!(rt; FOUND.len() >= 13);
-    for (file, files, lines) in FOUND {
+    let rows = FOUND;
+    assert!(rt; rows.len() >= 13);
+    for (file, files, lines) in rows {
         let found = printed(rt.alloc(), *file, files)?;
         assert!(rt; found.lines.as_str() == *lines, "{}", file.1);
         let is_error = lines.contains(": error: ");
@@ -292,8 +294,9 @@ fn tells_what_is_found(rt: HostRuntime) -> Result<(), FileFault> {
 
 #[test]
 fn tells_near_names_of_known_files(rt: HostRuntime) -> Result<(), FileFault> {
-    assert!(rt; NEAR.len() >= 4);
-    for (file, files, lines) in NEAR {
+    let rows = NEAR;
+    assert!(rt; rows.len() >= 4);
+    for (file, files, lines) in rows {
         let found = printed(rt.alloc(), *file, files)?;
         assert!(rt; found.lines.as_str() == *lines, "{}", file.1);
     }
@@ -302,8 +305,9 @@ fn tells_near_names_of_known_files(rt: HostRuntime) -> Result<(), FileFault> {
 
 #[test]
 fn tells_rules(rt: HostRuntime) -> Result<(), FileFault> {
-    assert!(rt; RULES.len() >= 10);
-    for (file, files, lines) in RULES {
+    let rows = RULES;
+    assert!(rt; rows.len() >= 10);
+    for (file, files, lines) in rows {
         let found = printed_rules(rt.alloc(), *file, files)?;
         assert!(rt; found.lines.as_str() == *lines, "{}", file.1);
     }
@@ -375,8 +379,9 @@ const UNREAD: &[(File, &str)] = &[
 
 #[test]
 fn warns_of_known_drafts_that_are_not_read(rt: HostRuntime) -> Result<(), FileFault> {
-    assert!(rt; UNREAD.len() >= 5);
-    for (file, lines) in UNREAD {
+    let rows = UNREAD;
+    assert!(rt; rows.len() >= 5);
+    for (file, lines) in rows {
         let found = added(rt.alloc(), *file)?;
         assert!(rt; found.lines.as_str() == *lines, "{}", file.1);
         assert!(rt; found.outcome == Outcome::Warnings, "{}", file.1);

@@ -324,8 +324,9 @@ const ROWS: &[(&str, &[Check])] = &[
 
 #[test]
 fn grammars_of_texts(rt: HostRuntime) -> Result<(), TextFault> {
-    assert!(rt; ROWS.len() >= 12);
-    for (text, checks) in ROWS {
+    let rows = ROWS;
+    assert!(rt; rows.len() >= 12);
+    for (text, checks) in rows {
         assert!(rt; holds(rt.alloc(), text, checks)?, "{text}");
     }
     Ok(())

@@ -108,8 +108,9 @@ fn has_grammar(
 
 #[test]
 fn finds_fences(rt: HostRuntime) -> Result<(), TextFault> {
-    assert!(rt; FENCES.len() >= 10);
-    for (draft, grammar, places) in FENCES {
+    let rows = FENCES;
+    assert!(rt; rows.len() >= 10);
+    for (draft, grammar, places) in rows {
         assert!(rt; has_grammar(rt.alloc(), draft, grammar, places)?, "{draft}");
     }
     Ok(())
@@ -117,8 +118,9 @@ fn finds_fences(rt: HostRuntime) -> Result<(), TextFault> {
 
 #[test]
 fn passes_over_the_rest(rt: HostRuntime) -> Result<(), TextFault> {
-    assert!(rt; NO_BLOCKS.len() >= 8);
-    for draft in NO_BLOCKS {
+    let rows = NO_BLOCKS;
+    assert!(rt; rows.len() >= 8);
+    for draft in rows {
         assert!(rt; has_grammar(rt.alloc(), draft, "", &[])?, "{draft}");
     }
     Ok(())
@@ -126,8 +128,9 @@ fn passes_over_the_rest(rt: HostRuntime) -> Result<(), TextFault> {
 
 #[test]
 fn keeps_lines(rt: HostRuntime) -> Result<(), TextFault> {
-    assert!(rt; LINES.len() >= 3);
-    for (draft, grammar, places) in LINES {
+    let rows = LINES;
+    assert!(rt; rows.len() >= 3);
+    for (draft, grammar, places) in rows {
         assert!(rt; has_grammar(rt.alloc(), draft, grammar, places)?, "{draft}");
     }
     Ok(())
@@ -135,8 +138,9 @@ fn keeps_lines(rt: HostRuntime) -> Result<(), TextFault> {
 
 #[test]
 fn takes_indents_away(rt: HostRuntime) -> Result<(), TextFault> {
-    assert!(rt; INDENTS.len() >= 5);
-    for (draft, grammar, places) in INDENTS {
+    let rows = INDENTS;
+    assert!(rt; rows.len() >= 5);
+    for (draft, grammar, places) in rows {
         assert!(rt; has_grammar(rt.alloc(), draft, grammar, places)?, "{draft}");
     }
     Ok(())

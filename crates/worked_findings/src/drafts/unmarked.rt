@@ -165,12 +165,14 @@ const TYPED: &[&str] = &[
 
 #[test]
 fn finds_bare_fences(rt: HostRuntime) -> Result<(), TextFault> {
-    assert!(rt; BARE.len() >= 10);
-    for (draft, wanted) in BARE {
+    let rows = BARE;
+    assert!(rt; rows.len() >= 10);
+    for (draft, wanted) in rows {
         assert!(rt; is_said_of_markdown(rt.alloc(), draft, wanted)?, "{draft}");
     }
-    assert!(rt; MARKED.len() >= 15);
-    for draft in MARKED {
+    let rows = MARKED;
+    assert!(rt; rows.len() >= 15);
+    for draft in rows {
         assert!(rt; is_said_of_markdown(rt.alloc(), draft, &[])?, "{draft}");
     }
     Ok(())
@@ -178,12 +180,14 @@ fn finds_bare_fences(rt: HostRuntime) -> Result<(), TextFault> {
 
 #[test]
 fn finds_elements_without_a_type(rt: HostRuntime) -> Result<(), XmlFault> {
-    assert!(rt; UNTYPED.len() >= 13);
-    for (draft, wanted) in UNTYPED {
+    let rows = UNTYPED;
+    assert!(rt; rows.len() >= 13);
+    for (draft, wanted) in rows {
         assert!(rt; is_said_of_xml(rt.alloc(), draft, wanted)?, "{draft}");
     }
-    assert!(rt; TYPED.len() >= 17);
-    for draft in TYPED {
+    let rows = TYPED;
+    assert!(rt; rows.len() >= 17);
+    for draft in rows {
         assert!(rt; is_said_of_xml(rt.alloc(), draft, &[])?, "{draft}");
     }
     Ok(())

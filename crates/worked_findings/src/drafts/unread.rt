@@ -77,8 +77,9 @@ const FENCES: &[Row] = &[
 
 #[test]
 fn finds_what_is_not_read(rt: HostRuntime) -> Result<(), XmlFault> {
-    assert!(rt; PAGES.len() >= 17);
-    for (draft, wanted) in PAGES {
+    let rows = PAGES;
+    assert!(rt; rows.len() >= 17);
+    for (draft, wanted) in rows {
         assert!(rt; is_said_of_xml(rt.alloc(), draft, wanted)?, "{draft}");
     }
     Ok(())
@@ -86,8 +87,9 @@ fn finds_what_is_not_read(rt: HostRuntime) -> Result<(), XmlFault> {
 
 #[test]
 fn finds_empty_fences(rt: HostRuntime) -> Result<(), TextFault> {
-    assert!(rt; FENCES.len() >= 8);
-    for (draft, wanted) in FENCES {
+    let rows = FENCES;
+    assert!(rt; rows.len() >= 8);
+    for (draft, wanted) in rows {
         assert!(rt; is_said_of_markdown(rt.alloc(), draft, wanted)?, "{draft}");
     }
     Ok(())

@@ -33,8 +33,9 @@ fn has_same(one: &Snapshot, other: &Snapshot, front: usize, back: usize) -> bool
 
 #[test]
 fn finds_same_lines(rt: HostRuntime) -> Result<(), TextFault> {
-    assert!(rt; ALIKE.len() >= 10);
-    for (one, other, front, back) in ALIKE {
+    let rows = ALIKE;
+    assert!(rt; rows.len() >= 10);
+    for (one, other, front, back) in rows {
         let ours = snapshot(rt.alloc(), one)?;
         let theirs = snapshot(rt.alloc(), other)?;
         assert!(rt;
@@ -70,9 +71,10 @@ const EDITS: &[(Span, &str, usize, usize)] = &[
 
 #[test]
 fn finds_same_lines_of_chunks(rt: HostRuntime) -> Result<(), TextFault> {
-    assert!(rt; EDITS.len() >= 7);
+    let rows = EDITS;
+    assert!(rt; rows.len() >= 7);
     let before = Snapshot::of_text(rt.alloc(), long_text(rt.alloc())?)?;
-    for (span, new, front, back) in EDITS {
+    for (span, new, front, back) in rows {
         let after = applied(rt.alloc(), &before, &[(Some(*span), new)])?;
         assert!(rt; has_same(&before, &after, *front, *back), "{front}");
     }

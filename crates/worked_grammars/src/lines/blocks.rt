@@ -167,8 +167,9 @@ const TEXTS: &[(&str, Want)] = &[
 
 #[test]
 fn blocks_of_texts(rt: HostRuntime) -> Result<(), TextFault> {
-    assert!(rt; TEXTS.len() >= 33);
-    for (text, want) in TEXTS {
+    let rows = TEXTS;
+    assert!(rt; rows.len() >= 33);
+    for (text, want) in rows {
         assert!(rt; holds(rt.alloc(), text, *want)?, "{text}");
     }
     Ok(())
@@ -208,9 +209,10 @@ const CUTS: &[(&str, &[(usize, usize)])] = &[
 
 #[test]
 fn cuts_of_texts(rt: HostRuntime) -> Result<(), TextFault> {
-    assert!(rt; CUTS.len() >= 6);
-    for (text, rows) in CUTS {
-        assert!(rt; has_bounds(rt.alloc(), text, rows)?, "{text}");
+    let rows = CUTS;
+    assert!(rt; rows.len() >= 6);
+    for (text, bounds) in rows {
+        assert!(rt; has_bounds(rt.alloc(), text, bounds)?, "{text}");
     }
     Ok(())
 }
@@ -259,8 +261,9 @@ const SHOWN: &[(&str, Option<Shown>)] = &[
 
 #[test]
 fn heads_of_texts(rt: HostRuntime) -> Result<(), TextFault> {
-    assert!(rt; SHOWN.len() >= 9);
-    for (text, shown) in SHOWN {
+    let rows = SHOWN;
+    assert!(rt; rows.len() >= 9);
+    for (text, shown) in rows {
         assert!(rt; shows(rt.alloc(), text, *shown)?, "{text}");
     }
     Ok(())
@@ -301,8 +304,9 @@ const NESTED: &[(Nested, Want)] = &[
 
 #[test]
 fn nested_brackets(rt: HostRuntime) -> Result<(), TextFault> {
-    assert!(rt; NESTED.len() >= 5);
-    for (row, want) in NESTED {
+    let rows = NESTED;
+    assert!(rt; rows.len() >= 5);
+    for (row, want) in rows {
         let text = nested(rt.alloc(), *row)?;
         assert!(rt; holds(rt.alloc(), text.as_str(), *want)?, "{text}");
     }

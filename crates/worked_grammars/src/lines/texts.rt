@@ -20,8 +20,9 @@ const LINE_COUNTS: &[(&str, usize)] = &[
 
 #[test]
 fn counts_lines(rt: HostRuntime) -> Result<(), TextFault> {
-    assert!(rt; LINE_COUNTS.len() >= 8);
-    for (text, lines) in LINE_COUNTS {
+    let rows = LINE_COUNTS;
+    assert!(rt; rows.len() >= 8);
+    for (text, lines) in rows {
         assert!(rt;
             snapshot(rt.alloc(), text)?.line_count() == *lines,
             "{text}"
@@ -433,8 +434,9 @@ fn becomes(alloc: Global, row: &Row) -> Result<bool, TextFault> {
 
 #[test]
 fn applies_edits(rt: HostRuntime) -> Result<(), TextFault> {
-    assert!(rt; EDITS.len() >= 13);
-    for row in EDITS {
+    let rows = EDITS;
+    assert!(rt; rows.len() >= 13);
+    for row in rows {
         assert!(rt; becomes(rt.alloc(), row)?, "{}", row.3);
     }
     Ok(())
@@ -457,8 +459,9 @@ fn puts(alloc: Global, encoding: Encoding, units: u32, wanted: &str) -> Result<b
 
 #[test]
 fn applies_edits_in_each_encoding(rt: HostRuntime) -> Result<(), TextFault> {
-    assert!(rt; PUTS.len() >= 6);
-    for (encoding, units, wanted) in PUTS {
+    let rows = PUTS;
+    assert!(rt; rows.len() >= 6);
+    for (encoding, units, wanted) in rows {
         assert!(rt; puts(rt.alloc(), *encoding, *units, wanted)?, "{wanted}");
     }
     Ok(())
