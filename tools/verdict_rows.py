@@ -364,8 +364,8 @@ def played():
 
 def controls():
     """Of the functions with twins those are proved as they stand whose turn comes next, and each whose answers name the proof of another."""
-    others = {"f", "g"}
-    cited = {"": {"f"}, "Laws.{law}": {"f"}, "g.Goals as goal": {"f"}, "h.Met.{met}": others, "low.h.Met.{met}": others}
+    both = {"f", "g"}
+    cited = {"": {"f"}, "Laws.{law}": {"f"}, "g.Goals as goal": {"f"}, "h.Met.{met}": both, "low.h.Met.{met}": both}
     for name, wanted in cited.items():
         with made_crate() as trial:
             for function, text in (("f", "-- a long proof\n" * 9), ("g", f"use Rattle.made.proofs.{name}\n" if name else "")):
@@ -385,11 +385,10 @@ def controls():
         with mock.patch.object(copies, "today", lambda day=day: day):
             shown += [it for it in ("f", "g", "walks", "Pair::turns", "scan::longest") if not copies.days_left(it)]
     yield "the days of controls", sorted(shown), ["Pair::turns", "f", "g", "scan::longest", "walks"]
-    first, next_day = "f", 0
     with mock.patch.object(copies, "today", lambda: 0):
-        next_day = copies.days_left(first)
-    with mock.patch.object(copies, "today", lambda: next_day):
-        yield "the day of a control", copies.days_left(first), 0
+        days = copies.days_left("f")
+    with mock.patch.object(copies, "today", lambda: days):
+        yield "the day of a control", copies.days_left("f"), 0
     with made_crate() as trial:
         twins = trial.maker.shared_out([it for it in trial.edits if it.functions], set())[0]
         with mock.patch.object(copies, "days_left", lambda name: 0 if name in ("f", "g") else 7):
