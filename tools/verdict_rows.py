@@ -368,7 +368,7 @@ def controls():
     cited = {"": {"f"}, "Laws.{law}": {"f"}, "g.Goals as goal": {"f"}, "h.Met.{met}": both, "low.h.Met.{met}": both}
     for name, wanted in cited.items():
         with made_crate() as trial:
-            for function, text in (("f", "-- a long proof\n" * 9), ("g", f"use Rattle.made.proofs.{name}\n" if name else "")):
+            for function, text in (("f", "-- answers\n"), ("g", f"use Rattle.made.proofs.{name}\n" if name else "")):
                 os.makedirs(f"{trial.source.folder}/proofs/{function}")
                 write(f"{trial.source.folder}/proofs/{function}/Answers.antt", text)
             again = Trial(trial.crate, trial.given, NoStore(), f"{trial.given.top}/same/made")
