@@ -11,9 +11,8 @@ it calls, and no such edit changes one. Each is made in a twin of its function, 
 functions those whose turn it is, each on one day in thirty, or else the next, and each whose answers name the proof of another one, must be
 proved in that very copy as they stand. All others are left out, with a body that never returns and a hole in place of a proof, but for one
 that stays whole as a witness. Where a function can have no twin, as in an impl of a trait, the edit comes on a further copy, and the
-function stands whole in the first. An edit of anything
-else (a definition, a contract) comes on a copy by itself, of which the functions that it names are checked in the same way, and stand whole
-in the first copy too; or all are checked.
+function stands whole in the first. An edit of anything else (a definition, a contract) comes on a copy by itself, of which the functions
+that it names are checked in the same way, and stand whole in the first copy too; or all are checked.
 
 An edit of bodies is refused where a function that it changes has a goal of its own that isn't proved. That what it calls isn't proved is no
 such goal, nor is a proof file that names what is gone. Any other edit is refused where something isn't proved. A copy counts only if its

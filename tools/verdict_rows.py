@@ -625,8 +625,35 @@ def libraries():
             yield f"libraries: {name}", (found, os.path.isfile(f"{crate.rlib}/format")), ([wanted], wanted and not is_kept)
 
 
+# Checks that run, by how many seconds ago they began and what memory each needs; what of it is free; and whether one that needs 4 may begin.
+RUNNING = (
+    ("nothing else runs", (), 1, True),
+    ("there is room beside a grown one", ((60, 9),), 4, True),
+    ("there is none beside a grown one", ((60, 9),), 3, False),
+    ("there is room beside a young one", ((59, 3),), 7, True),
+    ("a young one needs the room", ((59, 3),), 6, False),
+    ("two young ones need it", ((60, 9), (30, 3), (0, 2)), 8, False),
+    ("there is room beside both", ((60, 9), (30, 3), (0, 2)), 9, True),
+)
+
+
+def memory():
+    """A check begins where memory has room for it beside the young ones, whose need doesn't show yet; and one that has ended needs nothing."""
+    for name, running, free, wanted in RUNNING:
+        own = checks.Memory()
+        own.running = [checks.Begun(100.0 - age, needed) for age, needed in running]
+        with mock.patch.object(kit.RT, "free", lambda free=free: free), mock.patch.object(checks.time, "monotonic", lambda: 100.0):
+            yield f"a check begins: {name}", own.begin(4) is not None, wanted
+            yield f"the checks that run: {name}", len(own.running), len(running) + wanted
+    own = checks.Memory()
+    with mock.patch.object(kit.RT, "free", lambda: 9), mock.patch.object(kit.RT, "need", lambda needed: needed):
+        with own.of(5):
+            yield "a check that still runs", own.begin(5) is None, True
+        yield "a check behind one that has ended", own.begin(5) is not None, True
+
+
 def cases():
-    for some in (logs, alone, texts, names, played, controls, witnesses, sums, unedited, self_test, remembered, keys, libraries):
+    for some in (logs, alone, texts, names, played, controls, witnesses, sums, unedited, self_test, remembered, keys, libraries, memory):
         yield from some()
 
 

@@ -83,31 +83,39 @@ def run(crate, folder, flags, kept=None):
     return PROCESSES.run([*RTLIB.guarded(), *words], folder, 60 * MINUTES)
 
 
+class Begun(NamedTuple):
+    """A check that runs: since when, and how much memory it needs once it has grown."""
+
+    since: float
+    needed: int
+
+
 class Memory:
     """Lets checks begin that the machine's memory has room for, and one at least."""
 
     def __init__(self):
-        self.lock, self.running, self.young = threading.Lock(), 0, []
+        self.lock, self.running = threading.Lock(), []
 
-    def may_begin(self, needed):
+    def begin(self, needed):
+        """Begins a check that needs so much, if there is room, or gives None."""
         with self.lock:
-            # (a check takes a minute to grow to what it needs)
-            self.young = [it for it in self.young if it[0] > time.monotonic() - 60]
-            if self.running and RT.free() - sum(it for _, it in self.young) < needed:
-                return False
-            self.running += 1
-            self.young.append((time.monotonic(), needed))
-            return True
+            # (a check takes a minute to grow to what it needs, so what is free says nothing yet of what younger ones need)
+            grown = time.monotonic() - 60
+            growing = sum(it.needed for it in self.running if it.since > grown)
+            if self.running and RT.free() - growing < needed:
+                return None
+            self.running.append(Begun(time.monotonic(), needed))
+            return self.running[-1]
 
     @contextlib.contextmanager
     def of(self, crate):
-        while not self.may_begin(RT.need(crate)):
+        while not (begun := self.begin(RT.need(crate))):
             time.sleep(1)
         try:
             yield
         finally:
             with self.lock:
-                self.running -= 1
+                self.running.remove(begun)
 
 
 MEMORY = Memory()
