@@ -108,8 +108,9 @@ fn has_tokens(line: &str, rows: &[Row]) -> bool {
 
 #[test]
 fn lines(rt: HostRuntime) {
-    assert!(rt; LINES.len() >= 17);
-    for (line, rows) in LINES {
+    let lines = LINES;
+    assert!(rt; lines.len() >= 17);
+    for (line, rows) in lines {
         assert!(rt; has_tokens(line, rows), "{line}");
     }
 }
@@ -128,8 +129,9 @@ const NUMBERS: &[(&str, u32, Option<u32>)] = &[
 
 #[test]
 fn values(rt: HostRuntime) {
-    assert!(rt; NUMBERS.len() >= 8);
-    for (digits, base, value) in NUMBERS {
+    let rows = NUMBERS;
+    assert!(rt; rows.len() >= 8);
+    for (digits, base, value) in rows {
         assert!(rt; number_of(digits, *base) == *value, "{digits}");
     }
 }

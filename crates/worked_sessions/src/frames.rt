@@ -96,8 +96,9 @@ const STREAMS: &[(&[Step<'static>], &[&[u8]])] = &[
 
 #[test]
 fn streams(rt: HostRuntime) {
-    assert!(rt; STREAMS.len() >= 4);
-    for (steps, contents) in STREAMS {
+    let rows = STREAMS;
+    assert!(rt; rows.len() >= 4);
+    for (steps, contents) in rows {
         assert!(rt; takes(rt.alloc(), steps, contents));
     }
 }
@@ -122,8 +123,9 @@ fn has_fault(alloc: Global, piece: &[u8], fault: FrameFault) -> bool {
 
 #[test]
 fn faults(rt: HostRuntime) {
-    assert!(rt; FAULTS.len() >= 6);
-    for (piece, fault) in FAULTS {
+    let rows = FAULTS;
+    assert!(rt; rows.len() >= 6);
+    for (piece, fault) in rows {
         assert!(rt; has_fault(rt.alloc(), piece.as_bytes(), *fault), "{piece}");
     }
 }

@@ -52,8 +52,9 @@ fn has_kind(alloc: Global, body: &str, kind: &str) -> Result<bool, Memory> {
 
 #[test]
 fn bodies(rt: HostRuntime) -> Result<(), Memory> {
-    assert!(rt; BODIES.len() >= 4);
-    for (body, kind) in BODIES {
+    let rows = BODIES;
+    assert!(rt; rows.len() >= 4);
+    for (body, kind) in rows {
         assert!(rt; has_kind(rt.alloc(), body, kind)?, "{body}");
     }
     Ok(())
