@@ -11,6 +11,8 @@ mod counts;
 #[cfg(test)]
 mod drafts;
 #[cfg(test)]
+mod files;
+#[cfg(test)]
 mod floods;
 #[cfg(test)]
 mod gaps;
@@ -34,5 +36,3 @@ mod repeats;
 mod texts;
 #[cfg(test)]
 mod unmarked;
-#[cfg(test)]
-mod with_files;
