@@ -13,8 +13,6 @@ mod drafts;
 #[cfg(test)]
 mod files;
 #[cfg(test)]
-mod floods;
-#[cfg(test)]
 mod gaps;
 #[cfg(test)]
 mod grammars;
