@@ -16,3 +16,8 @@ fn a_draft_at_fault_leaves_what_is_known(rt: HostRuntime) -> Result<(), FileFaul
     assert!(rt; found.lines.as_str() == "");
     Ok(())
 }
+
+#[test]
+fn a_file_without_a_name_is_a_grammar(rt: HostRuntime) {
+    assert!(rt; Format::of_file("") == Format::Abnf);
+}

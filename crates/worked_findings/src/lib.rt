@@ -19,8 +19,6 @@ mod near;
 #[cfg(test)]
 mod no_grammar;
 #[cfg(test)]
-mod printed_texts;
-#[cfg(test)]
 mod published;
 #[cfg(test)]
 mod repeats;
