@@ -17,8 +17,6 @@ mod joins;
 #[cfg(test)]
 mod near;
 #[cfg(test)]
-mod no_grammar;
-#[cfg(test)]
 mod published;
 #[cfg(test)]
 mod repeats;
