@@ -22,5 +22,3 @@ mod published;
 mod repeats;
 #[cfg(test)]
 mod texts;
-#[cfg(test)]
-mod unmarked;
