@@ -11,8 +11,6 @@ mod drafts;
 #[cfg(test)]
 mod files;
 #[cfg(test)]
-mod hints;
-#[cfg(test)]
 mod joins;
 #[cfg(test)]
 mod near;
