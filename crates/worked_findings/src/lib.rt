@@ -1,7 +1,8 @@
-//! Worked rows of `abnf_findings`: near names, files whose names are known, drafts and published texts, blocks with many faults, texts that
-//! are no grammar, printed grammars, and arguments.
+//! Worked rows of what no line of `abnf_findings` shows: where each character of a grammar that is gathered begins in its file, what may have
+//! to be said of blocks, joined grammars, repeated definitions, and how many blocks of a text are rules.
 //!
-//! They stand above the crates that they test, since a crate with tests is proved twice.
+//! What it prints is in `tools/findings_rows.py` and `tools/published_rows.py`. The tests stand above the crates that they test, since a crate
+//! with tests is proved twice.
 #![tactic(auto)]
 
 #[cfg(test)]
