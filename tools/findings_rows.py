@@ -274,6 +274,7 @@ DRAFT_ROWS = (
     ("```abnf-like\na = ?\n```\n", NO_GRAMMAR, ()),
     ("``` abnf `\na = ?\n```\n", NO_GRAMMAR, ()),
     ("``abnf\na = ?\n``\n", NO_GRAMMAR, ()),
+    ("``\na = b\n``\n", NO_GRAMMAR, ()),
     ("a = b\n", NO_GRAMMAR, ()),
     ("```\nabnf\n```\n", NO_GRAMMAR, ()),
     ("```abnfx\na = b\n```\n", NO_GRAMMAR, ()),
