@@ -40,7 +40,7 @@ LISTS = (
     *(f"{module}.{name}" for module in ("session_rows", "encoding_rows") for name in ("SESSIONS", "REPLIES")),
     *("session_rows.FRAMES", "command_rows.EXAMPLES", "command_rows.CHECKS"),
     *("findings_rows.ROWS", "findings_rows.RULE_ROWS", "findings_rows.DRAFT_ROWS", "findings_rows.XML_ROWS", "install_rows.ROWS"),
-    *("findings_rows.WITH_ROWS", "findings_rows.GRAMMAR_ROWS", "published_rows.ROWS"),
+    *("findings_rows.WITH_ROWS", "findings_rows.TOLD_ROWS", "findings_rows.GRAMMAR_ROWS", "published_rows.ROWS"),
     "typed_edits.KINDS",
 )
 NUMBERS = (

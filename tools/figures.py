@@ -100,6 +100,7 @@ FIGURES = (
     Figure(TESTING, "| texts of `abnf_findings` | {}, of rules {} |", counts_of("list findings_rows.ROWS", "list findings_rows.RULE_ROWS")),
     Figure(TESTING, "| drafts of `abnf_findings` | {}, in RFCXML {} |", counts_of("list findings_rows.DRAFT_ROWS", "list findings_rows.XML_ROWS")),
     Figure(TESTING, "| files with known ones | {}, printed grammars {} |", KNOWN_FILES),
+    Figure(TESTING, "| known files, with what is told of them | {} |", count_of("list findings_rows.TOLD_ROWS")),
     Figure(TESTING, "| rows of `./install` | {} |", count_of("rows install install_rows")),
     Figure(TESTING, "| rows of `./dist` | {} |", count_of("rows dist dist_rows")),
     Figure(TESTING, "| runs with devices that fail, of each program | {} |", failing_devices_of),

@@ -37,15 +37,79 @@ DEEP = "a = " + 65 * "("
 TEN = 10 * "b c\n"
 NO_HEAD = '"=" or "=/" expected'
 FIRST_OF_ELEVEN = " (the first of 11 faults in this block)"
+FIRST_OF_TWELVE = FIRST_OF_ELEVEN.replace("11", "12")
+# As many faults as a block of prose has at least, in rules, and what is printed of them
+ELEVEN = "b = ?\nc = ?\nd = ?\ne = ?\ng = ?\nh = ?\ni = ?\nj = ?\nk = ?\nl = ?\nm = ?\n"
+ELEVEN_FAULTS = tuple(f"{line}:5: error: bad character [syntax]" for line in range(1, 12))
+# A line that is no rule
+XY = "x y\n"
 
 FOLDED = ", lines that are folded by \\ are not joined (RFC 8792)"
 OF_HTTP = ", lists by # are an extension of HTTP (RFC 9110, section 5.6.1)"
 GAP = ", as it leads to names that no file defines"
 BARE = 'warning: rules in a block without a word, "~~~ abnf" marks them [unmarked]'
 UNTYPED = 'warning: rules in an element without a type, type="abnf" marks them [unmarked]'
+# What is said of blocks that can't be read
+ELSEWHERE, NONE_THERE = "warning: grammar in another file [not-read]", "warning: empty block of grammar [not-read]"
 # What is printed of a text that is no grammar, and of a draft that has none
 NO_TEXT = ("1:1: error: no grammar in this text [no-grammar]",)
 NO_GRAMMAR = ("1:1: warning: no grammar in this draft [no-grammar]",)
+
+# Drafts in Markdown and RFCXML with blocks that nothing marks, and that aren't all rules, or that something marks: nothing is found in them. The
+# line of their rule stands behind those in Markdown; in RFCXML it stands in the first line.
+MARKED_DRAFTS = (
+    ('```\na = "x"\nSome words.\n```\n```abnf\nb = "x"\n```\n', 6),
+    ('~~~\na = ?\n~~~\n~~~\n; a\n~~~\n~~~\n~~~\n```abnf\nb = "x"\n```\n', 10),
+    ('```text\na = "x"\n```\n{: #a}\n```\na = "x"\n```\n\n```abnf\nb = "x"\n```\n', 10),
+)
+MARKED_PAGES = (
+    '<artwork type="abnf">b = "x"</artwork><artwork>+--+</artwork><artwork></artwork>',
+    '<artwork type="abnf">b = "x"</artwork><artwork>a = b<!-- c -->\nc\n</artwork>',
+    '<artwork type="abnf">b = "x"</artwork><artwork type="">a = b</artwork><artwork>a = &b;</artwork>',
+)
+
+# A name, the names that are known in front of the core rules, and the one that is meant, by edits that are counted by hand
+LONG = "a" + 62 * "x"
+NEAR_NAMES = (
+    # a letter put in, taken out, changed; two exchanged are two changes
+    ("sheme", ("a", "scheme", "ALPHA"), "scheme"),
+    ("hosts", ("port", "host"), "host"),
+    ("pert", ("port",), "port"),
+    ("shceme", ("scheme",), "scheme"),
+    ("hots", ("host",), None),
+    # letters are read without case
+    ("PATH-EMPTI", ("path-empty",), "path-empty"),
+    ("digits", ("ALPHA", "DIGIT"), "DIGIT"),
+    # a third of the longer name, rounded down, and 1 of short ones
+    ("abcdefghi", ("abcdefxyz",), "abcdefxyz"),
+    ("abcdefgh", ("abcdexyz",), None),
+    ("abcdef", ("abcdefghi",), "abcdefghi"),
+    ("abcde", ("abcdefgh",), None),
+    ("ab", ("ac",), "ac"),
+    ("ab", ("cd",), None),
+    ("kitten", ("sitting",), None),
+    # the nearest, and of those that are as near the first
+    ("segmant", ("segments", "segment"), "segment"),
+    ("pat", ("path", "part"), "path"),
+    ("pat", ("part", "path"), "part"),
+    ("pat", ("pot", "part", "pa"), "pot"),
+    # one letter has nothing in common with another, and nothing with a longer name
+    ("a", ("b",), None),
+    ("ab", ("a",), None),
+    ("a", ("ab",), None),
+    # names of up to 64 letters are compared
+    (f"{LONG}z", (f"{LONG}y",), f"{LONG}y"),
+    (f"{LONG}zz", (f"{LONG}y",), None),
+    (f"{LONG}y", (f"{LONG}zz",), None),
+)
+
+
+def near_row(name, known, meant):
+    """A text that defines the known names, in the first of which it uses the other name, and what is found in it."""
+    first, *others = known
+    text, hint = "".join(f'{it} = "x"\n' for it in others), f", did you mean {meant}?" if meant else ""
+    return f'{first} = "x" / {name}\n{text}', (f"1:{len(first) + 10}: error: undefined rule {name}{hint} [undefined]",)
+
 
 ROWS = (
     # nothing is found: the core rules are there (RFC 5234 appendix B.1), in either case, and equal bounds and ends are not empty
@@ -84,6 +148,10 @@ ROWS = (
     ('a = hexdi / "x"\nhexdix = "1"', ("1:5: error: undefined rule hexdi, did you mean hexdix? [undefined]",)),
     ('a = b c / "x"', ("1:5: error: undefined rule b [undefined]", "1:7: error: undefined rule c [undefined]")),
     ('scheme = "x"\nshemes =/ "y"', ("2:1: warning: no earlier definition of shemes [no-base]",)),
+    ('a = nope / "x"\nscheme = "y"', ("1:5: error: undefined rule nope [undefined]",)),
+    # (a faulty block defines its name too)
+    ('scheme = ?\na = sheme / "x"', ("1:10: error: bad character [syntax]", "2:5: error: undefined rule sheme, did you mean scheme? [undefined]")),
+    *(near_row(*it) for it in NEAR_NAMES),
     # second definitions, in either case (RFC 5234 section 2.1), and additions without a first (section 3.3)
     ('A = "yy"\na = "z"\na =/ "x"', ("2:1: error: rule a is already defined [duplicate]",)),
     ('a =/ "x"\na = "y"\na =/ "z"', ("1:1: warning: no earlier definition of a [no-base]",)),
@@ -92,6 +160,22 @@ ROWS = (
     ('a = %x39-30 / "y"', ("1:5: warning: range with low above high [empty-range]",)),
     # rules that generate nothing
     ('a = b "x"\nb = a', ("1:1: warning: rule a generates nothing [unproductive]", "2:1: warning: rule b generates nothing [unproductive]")),
+    (
+        "a = b\nb = gone\n",
+        (
+            *(f"{line}:1: warning: rule {name} generates nothing [unproductive]" for line, name in ((1, "a"), (2, "b"))),
+            "2:5: error: undefined rule gone [undefined]",
+        ),
+    ),
+    (" a = OWS\n", ("1:2: warning: rule a generates nothing [unproductive]", "1:6: error: undefined rule OWS [undefined]")),
+    (
+        'a = b\n / nope\n\nd = 3*2"x"\n\n',
+        (
+            "1:1: warning: rule a generates nothing [unproductive]",
+            *("1:5: error: undefined rule b [undefined]", "2:4: error: undefined rule nope [undefined]"),
+            *("4:1: warning: rule d generates nothing [unproductive]", "4:5: warning: repeat with minimum above maximum [empty-repeat]"),
+        ),
+    ),
     # several of one line, and of one place by the rows of the table
     (
         'a = 3*2"x" / %x39-30',
@@ -112,16 +196,23 @@ ROWS = (
     ('a = "x"\n' + 9 * "\n" + "b = ?", ("11:5: error: bad character [syntax]",)),
     # a grammar has all its faults told, however many they are
     (f'a = "x"\n{TEN}b c', tuple(f"{line}:3: error: {NO_HEAD} [syntax]" for line in range(2, 13))),
+    (ELEVEN, ELEVEN_FAULTS),
     # a text that is no grammar: more than one block, none a rule, and fewer than half with a head
     ("Some words.\nMore of them.\n", NO_TEXT),
     ("<!DOCTYPE html>\n<html>\n <body>\n  <p>a = b</p>\n </body>\n</html>\n", NO_TEXT),
     ("; a\n  a = ?\n  Some words.\nMore words, a = b\n", NO_TEXT),
     (f"{TEN}b c", NO_TEXT),
+    ("; a\n\n  Some words.\n    More words.\n  And more.\n", NO_TEXT),
+    ("Some words.\na = ?\nMore words.\n", NO_TEXT),
+    ('= "x"\n= "y"', NO_TEXT),
     # half of its blocks have one, or one is a rule, or there is one block alone
     ("a = ?\nSome words.\n", ("1:5: error: bad character [syntax]", f"2:6: error: {NO_HEAD} [syntax]")),
     ("Some words.\nA\n =/ ?\n", (f"1:6: error: {NO_HEAD} [syntax]", "2:1: warning: no earlier definition of A [no-base]", "3:5: error: bad character [syntax]")),
     ('Some words.\na = "x"\nMore words.\nAnd more.\n', (f"1:6: error: {NO_HEAD} [syntax]", f"3:6: error: {NO_HEAD} [syntax]", f"4:5: error: {NO_HEAD} [syntax]")),
     ("Some words.\n  More of them.\n", (f"1:6: error: {NO_HEAD} [syntax]",)),
+    ("Some words.\n", (f"1:6: error: {NO_HEAD} [syntax]",)),
+    ("Some words.\na = ?\n", (f"1:6: error: {NO_HEAD} [syntax]", "2:5: error: bad character [syntax]")),
+    ('Some words.\nMore words.\na = "x"\nAnd more.\n', tuple(f"{at}: error: {NO_HEAD} [syntax]" for at in ("1:6", "2:6", "4:5"))),
     ("a = %x100000000\nb = %x100000000", ("1:5: error: number too large [number-too-large]", "2:5: error: number too large [number-too-large]")),
 )
 
@@ -129,6 +220,7 @@ ROWS = (
 RULE_ROWS = (
     ("Some words.\nMore of them.\na = ?\n", ("3:1: a: not known",)),
     ("", ()),
+    ("Some words.\nMore words.\n", ()),
     ("; nothing\n", ()),
     ('a = "x"', ("1:1: a: shortest length 1: x",)),
     # names are read without case, and what is added counts (RFC 5234 sections 2.1 and 3.3)
@@ -182,6 +274,13 @@ DRAFT_ROWS = (
     ("```abnf-like\na = ?\n```\n", NO_GRAMMAR, ()),
     ("``` abnf `\na = ?\n```\n", NO_GRAMMAR, ()),
     ("``abnf\na = ?\n``\n", NO_GRAMMAR, ()),
+    ("``\na = b\n``\n", NO_GRAMMAR, ()),
+    ("a = b\n", NO_GRAMMAR, ()),
+    ("```\nabnf\n```\n", NO_GRAMMAR, ()),
+    ("```abnfx\na = b\n```\n", NO_GRAMMAR, ()),
+    ("``` xml abnf\na = b\n```\n", NO_GRAMMAR, ()),
+    ("```abnf `\na = b\n", NO_GRAMMAR, ()),
+    ("~~~text\n```abnf\na = b\n```\n~~~\n", NO_GRAMMAR, ()),
     # attribute lists that say ABNF, as kramdown has them: in the info string, before a block and behind it; that behind a block speaks of that
     ("~~~ {.abnf}\na = ?\n~~~\n", ("2:5: error: bad character [syntax]",), ("2:1: a: not known",)),
     ('```{: .x type="ABNF" #y}\na = ?\n```\n', ("2:5: error: bad character [syntax]",), ("2:1: a: not known",)),
@@ -203,6 +302,27 @@ DRAFT_ROWS = (
         "text\n\n~~~ {.abnf}\n \t\n ~~~\n```abnf\na = ?\n```\n```\n```\n```abnf\n\n",
         ("5:1: warning: empty block of grammar [not-read]", "7:5: error: bad character [syntax]", "13:1: warning: empty block of grammar [not-read]"),
         ("7:1: a: not known",),
+    ),
+    ("~~~ abnf\r\n \t\r\n\r\n  ~~~\n", ("4:1: warning: empty block of grammar [not-read]",), ()),
+    ("~~~\n~~~\n{: .abnf}\n", ("2:1: warning: empty block of grammar [not-read]",), ()),
+    ("> ~~~ abnf\n>\n> ~~~\n", ("3:1: warning: empty block of grammar [not-read]",), ()),
+    (
+        "```abnf\n\u00e9\n```\n```abnf\n",
+        ("2:1: error: rule name expected [syntax]", "5:1: warning: empty block of grammar [not-read]"),
+        (),
+    ),
+    # text stands in it, or it is no block of ABNF
+    ("```abnf\n; a\n```\n", (), ()),
+    ("```text\n```\n", NO_GRAMMAR, ()),
+    ("<!--\n```abnf\n```\n", NO_GRAMMAR, ()),
+    # findings of two blocks
+    (
+        '# A title\n\n```abnf\n  a = b\n   / nope\n```\ntext\n~~~abnf\nd = ?\na =/ "x"\n~~~\n',
+        (
+            *("4:7: error: undefined rule b [undefined]", "5:6: error: undefined rule nope [undefined]"),
+            "9:5: error: bad character [syntax]",
+        ),
+        ("4:3: a: shortest length 1: x", "9:1: d: not known"),
     ),
     # an appendix that collects the grammar: what says the same as the first definition is no finding, with names in any case, and other
     # blanks and comments
@@ -235,6 +355,60 @@ DRAFT_ROWS = (
     ),
     # a fence that opens over what isn't ABNF, with a hint at the first fault
     (f"# Title\n\n```abnf\na = 1#b\n{TEN}", (f"4:5: error: element expected{OF_HTTP}{FIRST_OF_ELEVEN} [syntax]",), ("4:1: a: not known",)),
+    (
+        f"~~~ abnf\na = #b\n{10 * XY}~~~\n",
+        (f"2:5: error: bad character{OF_HTTP}{FIRST_OF_ELEVEN} [syntax]",),
+        ("2:1: a: not known",),
+    ),
+    (
+        f'~~~ abnf\na = 4294967296"x"\n{10 * XY}~~~\n',
+        (f"2:5: error: number too large{FIRST_OF_ELEVEN} [number-too-large]",),
+        ("2:1: a: not known",),
+    ),
+    # a fence that opens over prose: nothing else is told of the block
+    (
+        f"text\n\n```abnf\na = nope\n{11 * XY}```\n",
+        (f"5:3: error: {NO_HEAD}{FIRST_OF_ELEVEN} [syntax]",),
+        ("4:1: a: generates nothing",),
+    ),
+    # a fence that no line closes, where the last line has no end
+    (f"```abnf\n{11 * XY}x y", (f"2:3: error: {NO_HEAD}{FIRST_OF_TWELVE} [syntax]",), ()),
+    # a second block stays whole
+    (
+        f"```abnf\n{11 * XY}```\n```abnf\nb = ?\nb y\n```\n",
+        (
+            f"2:3: error: {NO_HEAD}{FIRST_OF_ELEVEN} [syntax]",
+            *("15:5: error: bad character [syntax]", f"16:3: error: {NO_HEAD} [syntax]"),
+        ),
+        ("15:1: b: not known",),
+    ),
+    # so does a first, and nothing is told of definitions that differ from its own
+    (
+        f'```abnf\nc = nope\na = "x"\n```\n```abnf\na = "y"\nd =/ "x"\n?\n{10 * XY}```\n',
+        (
+            *("2:1: warning: rule c generates nothing [unproductive]", "2:5: error: undefined rule nope [undefined]"),
+            f"8:1: error: rule name expected{FIRST_OF_ELEVEN} [syntax]",
+        ),
+        ("2:1: c: generates nothing", "3:1: a: shortest length 1: x", "7:1: d: shortest length 1: x"),
+    ),
+    # two of them, with an empty block behind
+    (
+        f"```abnf\n{11 * XY}```\n```abnf\n{12 * XY}```\n```abnf\n```\n",
+        (
+            *(f"2:3: error: {NO_HEAD}{FIRST_OF_ELEVEN} [syntax]", f"15:3: error: {NO_HEAD}{FIRST_OF_TWELVE} [syntax]"),
+            "29:1: warning: empty block of grammar [not-read]",
+        ),
+        (),
+    ),
+    # ten faults, and other findings of their block
+    (
+        f"text\n\n```abnf\na = nope\n{10 * XY}```\n",
+        (
+            *("4:1: warning: rule a generates nothing [unproductive]", "4:5: error: undefined rule nope [undefined]"),
+            *(f"{line}:3: error: {NO_HEAD} [syntax]" for line in range(5, 15)),
+        ),
+        ("4:1: a: generates nothing",),
+    ),
     # blocks of rules that nothing marks as ABNF: each at its fence, behind the margin
     ('```\na = "x"\n```\n', (*NO_GRAMMAR, f"1:1: {BARE}"), ()),
     ("text\n\n~~~~ \t\na = nope\na = nope\n\n\nb =/ 3*2a\n", (*NO_GRAMMAR, f"3:1: {BARE}"), ()),
@@ -246,16 +420,38 @@ DRAFT_ROWS = (
         (f"1:1: {BARE}", "6:5: error: bad character [syntax]", f"8:1: {BARE}", "14:1: warning: empty block of grammar [not-read]"),
         ("6:1: a: not known",),
     ),
+    (
+        '> ~~~\n> b = c\n> ~~~\n\n```abnf\na = a\n```\n\n  ~~~\n  ; d\n  d =/ nope\n  e = "x"',
+        (f"1:3: {BARE}", "6:1: warning: rule a generates nothing [unproductive]", f"9:3: {BARE}"),
+        ("6:1: a: generates nothing",),
+    ),
+    # nothing is said of them where rules are asked for
+    ('```\nb = "y"\n```\n```abnf\na = "x"\n```\n', (f"1:1: {BARE}",), ("5:1: a: shortest length 1: x",)),
     # an attribute list in the line before or behind, whatever it says: that behind a block stands before the next one, too
     ('{.x}\n~~~\na = "x"\n~~~\n', NO_GRAMMAR, ()),
+    ("{: .text}\n```\na = b\n```\n", NO_GRAMMAR, ()),
+    ("\t{\n~~~\na = b\n~~~\n", NO_GRAMMAR, ()),
     ('~~~\na = "x"\n~~~\n {: #y\n', NO_GRAMMAR, ()),
+    ("```\na = b\n```\n{: #a}\n", NO_GRAMMAR, ()),
+    (
+        "{: .abnf}\n```\na = b\n```\n",
+        ("3:1: warning: rule a generates nothing [unproductive]", "3:5: error: undefined rule b [undefined]"),
+        ("3:1: a: generates nothing",),
+    ),
+    (
+        "```\na = b\n```\n  {.abnf}\n",
+        ("2:1: warning: rule a generates nothing [unproductive]", "2:5: error: undefined rule b [undefined]"),
+        ("2:1: a: generates nothing",),
+    ),
     ('~~~\na = "x"\n~~~\n{.x}\n~~~\nb = "x"\n~~~\n~~~\nc = "x"\n~~~', (*NO_GRAMMAR, f"8:1: {BARE}"), ()),
     ('{.x}\n\n~~~\na = "x"\n~~~\n\n{.x}\n', (*NO_GRAMMAR, f"3:1: {BARE}"), ()),
     # an info string
+    ("```text\na = b\n```\n", NO_GRAMMAR, ()),
     ('``` x\na = "x"\n```\n~~~ {.x}\na = "x"\n~~~\n~~~abnfs\na = "x"\n~~~\n~~~ ~\na = "x"\n~~~\n', NO_GRAMMAR, ()),
     # not all is rules, or nothing is
     ('~~~\na = "x"\nb\n~~~\n```\n# A title\n\n    a = "x"\n```\n~~~\na = "x"\nb = %x100000000\n~~~\n', NO_GRAMMAR, ()),
     ('~~~\n; a = "x"\n\n~~~\n```\n```\n~~~\n \t\n~~~\n~~~', NO_GRAMMAR, ()),
+    *((text, (), (f"{line}:1: b: shortest length 1: x",)) for text, line in MARKED_DRAFTS),
     # other blocks, and comments
     (
         '````text\n~~~\na = "x"\n~~~\n````\n<!--\n~~~\na = "x"\n~~~\n-->\n{::comment}\n~~~\na = "x"\n~~~\n{:/comment}\n\n    ```\n    a = "x"\n    ```\n',
@@ -283,6 +479,20 @@ XML_ROWS = (
         ("1:69: error: undefined rule b [undefined]", "1:84: error: undefined rule c [undefined]"),
         ("1:52: a: not known",),
     ),
+    (
+        '<artwork type="abnf">\n  a = &lt;b&gt; nope\n  c = c\n</artwork>',
+        ("2:17: error: undefined rule nope [undefined]", "3:3: warning: rule c generates nothing [unproductive]"),
+        ("2:3: a: not known", "3:3: c: generates nothing"),
+    ),
+    # what is no block
+    ("", NO_GRAMMAR, ()),
+    ("a = b & c\n", NO_GRAMMAR, ()),
+    ('<sourcecode type="xml">a = b</sourcecode>', NO_GRAMMAR, ()),
+    ('<sourcecodes type="abnf">a = b</sourcecodes>', NO_GRAMMAR, ()),
+    ('<Artwork type="abnf">a = b</Artwork>', NO_GRAMMAR, ()),
+    ('<artwork type="abnf"/>a = b', (*NO_GRAMMAR, "1:1: warning: empty block of grammar [not-read]"), ()),
+    ('<![CDATA[<artwork type="abnf">]]>', NO_GRAMMAR, ()),
+    ('<?xml version="1.0"?><!DOCTYPE rfc>', NO_GRAMMAR, ()),
     # two blocks, of which the second uses a name of the first; other types, an empty element, and `>` in quotes
     (
         '<sourcecode type="abnf">a = "x"</sourcecode>\n<sourcecode type="xml">b = ?</sourcecode>\n<artwork type="abnf"/>\n<artwork alt=">" type="abnf">b = a c</artwork>',
@@ -307,6 +517,41 @@ XML_ROWS = (
         ("1:22: a: not known", "4:64: d: not known"),
     ),
     ('<artwork type="abnf" src="a.abnf">a = "x"</artwork>', ("1:1: warning: grammar in another file [not-read]",), ("1:35: a: shortest length 1: x",)),
+    *((text, (*NO_GRAMMAR, f"1:1: {ELSEWHERE}"), ()) for text in ('<sourcecode type="abnf" src="a.abnf"/>', '<artwork src="a" type="abnf"/>')),
+    (
+        "<sourcecode src = 'a' type=\"abnf\">a = b</sourcecode>",
+        (f"1:1: {ELSEWHERE}", "1:35: warning: rule a generates nothing [unproductive]", "1:39: error: undefined rule b [undefined]"),
+        ("1:35: a: generates nothing",),
+    ),
+    ('<artwork type="abnf" src="a"></artwork>', (f"1:1: {ELSEWHERE}",), ()),
+    ('<sourcecode type="abnf"><xi:include href="a"/></sourcecode>', (f"1:25: {ELSEWHERE}",), ()),
+    (
+        '<artwork type="abnf">a = b<xi:include href="b"/> c<xi:include href="c"/></artwork>',
+        (
+            *("1:22: warning: rule a generates nothing [unproductive]", "1:26: error: undefined rule b [undefined]", f"1:27: {ELSEWHERE}"),
+            *("1:50: error: undefined rule c [undefined]", f"1:51: {ELSEWHERE}"),
+        ),
+        ("1:22: a: generates nothing",),
+    ),
+    # there is no text
+    ('x<artwork type="abnf"/>', (*NO_GRAMMAR, f"1:2: {NONE_THERE}"), ()),
+    ('<sourcecode type="abnf"></sourcecode>', (f"1:1: {NONE_THERE}",), ()),
+    ('<artwork type="abnf"> \n<!-- a --><![CDATA[\t]]>&#32;</artwork>', (f"1:1: {NONE_THERE}",), ()),
+    ('<artwork type="abnf"/><artwork type="abnf"></artwork>', (f"1:1: {NONE_THERE}", f"1:23: {NONE_THERE}"), ()),
+    # all is read: a fault that stands behind the last character of a block stands at its end tag
+    *(
+        (text, (f"1:{text.index('</') + 1}: error: {NO_HEAD} [syntax]",), ())
+        for text in (
+            '<artwork type="abnf">a</artwork>',
+            '<artwork type="abnf"><![CDATA[a]]></artwork>',
+            '<artwork type="abnf">&#65;</artwork>',
+            '<sourcecode type="abnf" srcs="a">a</sourcecode>',
+            '<sourcecode type="abnf" name="x src=\'a\'">a</sourcecode>',
+        )
+    ),
+    # what is no block of ABNF
+    ('<sourcecode src="a"/><xi:include href="a"/>', NO_GRAMMAR, ()),
+    ('<!-- <artwork type="abnf"/> -->', NO_GRAMMAR, ()),
     # definitions that come again
     (
         '<artwork type="abnf">a = "x"</artwork>\n<artwork type="abnf">a = &quot;x&quot;\na = &quot;x&quot; / "y"</artwork>',
@@ -318,6 +563,23 @@ XML_ROWS = (
         f'<artwork type="abnf">a = "x"</artwork>\n<artwork type="abnf">\na = &quot;x&quot;\na = "y"\n{TEN}c = %x100000000\n</artwork>',
         (f"5:3: error: {NO_HEAD}{FIRST_OF_ELEVEN} [syntax]",),
         ("1:22: a: shortest length 1: x", "15:1: c: not known"),
+    ),
+    (
+        f'<artwork type="abnf">\na = nope\n{11 * XY}</artwork>\n',
+        (f"3:3: error: {NO_HEAD}{FIRST_OF_ELEVEN} [syntax]",),
+        ("2:1: a: generates nothing",),
+    ),
+    # a line end that a reference stands for is none of a block
+    (
+        '<artwork type="abnf">x y&#10;x y&#xA;x y&#10;x y&#10;x y&#10;x y&#10;x y&#10;x y&#10;x y&#10;x y&#10;x y</artwork>',
+        (f"1:24: error: {NO_HEAD}{FIRST_OF_ELEVEN} [syntax]",),
+        (),
+    ),
+    # eleven, ten of which stand in one block
+    (
+        f'<artwork type="abnf">\n{10 * XY}</artwork><artwork type="abnf">b = ?</artwork>',
+        (*(f"{line}:3: error: {NO_HEAD} [syntax]" for line in range(2, 12)), "12:36: error: bad character [syntax]"),
+        ("12:32: b: not known",),
     ),
     # names of spaces and hyphens, of which each is one character that no grammar has
     (
@@ -342,12 +604,25 @@ XML_ROWS = (
         (f"1:1: {UNTYPED}", "2:26: error: bad character [syntax]", f"2:37: {UNTYPED}", "3:1: warning: empty block of grammar [not-read]"),
         ("2:22: b: not known",),
     ),
+    ("<sourcecode>a = b</sourcecode>", (*NO_GRAMMAR, f"1:1: {UNTYPED}"), ()),
+    ("<artwork name=\" type='abnf'\">a = b</artwork>", (*NO_GRAMMAR, f"1:1: {UNTYPED}"), ()),
+    *((text, (), ("1:22: b: shortest length 1: x",)) for text in MARKED_PAGES),
     # another type, none of a name, or `src`
     ('<artwork type="">a = "x"</artwork><sourcecode type=\'text\'>a = "x"</sourcecode><artwork\ttype\n= "x">a = "x"</artwork>', NO_GRAMMAR, ()),
     ('<artwork src="b">a = "x"</artwork><sourcecode name="a" src = "b" >a = "x"</sourcecode>', NO_GRAMMAR, ()),
+    ("<sourcecode type = 'xml'>a = b</sourcecode>", NO_GRAMMAR, ()),
+    (
+        '<artwork\ntype="abnf">a = b</artwork>',
+        ("2:13: warning: rule a generates nothing [unproductive]", "2:17: error: undefined rule b [undefined]"),
+        ("2:13: a: generates nothing",),
+    ),
     # empty elements, others, and what is no element
     ('<artwork/>a = "x"<artwork />a = "x"</artwork><artworks>a = "x"</artworks><t>a = "x"</t>', NO_GRAMMAR, ()),
     ('<!-- <artwork>a = "x"</artwork> --><![CDATA[<artwork>a = "x"</artwork>]]>', NO_GRAMMAR, ()),
+    ("a = b", NO_GRAMMAR, ()),
+    ('<artwork name="a" />a = b</artwork>', NO_GRAMMAR, ()),
+    ("<Artwork>a = b</Artwork>", NO_GRAMMAR, ()),
+    ("<figure>a = b</figure>", NO_GRAMMAR, ()),
     # one in another one: the inner one may be told
     ('<artwork>a = "x"<sourcecode>b = "y"</sourcecode></artwork>', (*NO_GRAMMAR, f"1:17: {UNTYPED}"), ()),
     ('<artwork>a = "x"\n<sourcecode type="abnf">b = ?</sourcecode></artwork>', ("2:29: error: bad character [syntax]",), ("2:25: b: not known",)),
@@ -355,6 +630,9 @@ XML_ROWS = (
     # references that can't be read, no end tag, not all rules, and none
     ('<artwork>a = "x" ; &foo;\n</artwork><sourcecode>a = "x" ; &\n</sourcecode>', NO_GRAMMAR, ()),
     ('<sourcecode>a = "x"</artwork>', NO_GRAMMAR, ()),
+    ("<artwork>a = b</sourcecode>", NO_GRAMMAR, ()),
+    ("<artwork>a = b", NO_GRAMMAR, ()),
+    ("<artwork>a = b<!-- </artwork>", ("1:15: error: comment without an end [xml]",), None),
     ('<artwork>a = "x"\nb</artwork><artwork>; a</artwork><artwork> <!-- a = b --></artwork>', NO_GRAMMAR, ()),
     ('<artwork>a = "x"</artwork><!-- a', ("1:27: error: comment without an end [xml]",), None),
     # faults
@@ -364,10 +642,22 @@ XML_ROWS = (
     ("\u00e9<rfc a='>'", ("1:2: error: tag without an end [xml]",), None),
     ('<artwork type="abnf">a = &nope;</artwork>', ("1:26: error: no reference to a character [xml]",), None),
     ('<artwork type="abnf">a = &#xD800;</artwork>', ("1:26: error: no reference to a character [xml]",), None),
+    *(
+        (f'<artwork type="abnf">{it}</artwork>', ("1:22: error: no reference to a character [xml]",), None)
+        for it in ("&amp ", "&#xD800;", "&#x110000;", "&#;")
+    ),
     ('<artwork type="abnf">\na = nope\nb = ?\n &foo;</artwork>', ("4:2: error: no reference to a character [xml]",), None),
+    ('x<sourcecode type="abnf">a</artwork>', ("1:2: error: block without an end tag [xml]",), None),
+    ("ab<!-- -", ("1:3: error: comment without an end [xml]",), None),
+    ('<artwork type="abnf"><!-- </artwork>', ("1:22: error: comment without an end [xml]",), None),
+    ('<artwork type="abnf"/><!-- <artwork type="abnf"/>', ("1:23: error: comment without an end [xml]",), None),
+    ("<![CDATA[ ]]", ("1:1: error: CDATA section without an end [xml]",), None),
+    ('<a b=">', ("1:1: error: tag without an end [xml]",), None),
 )
 
 CORE = "OWS = *( SP / HTAB )\nRWS = 1*( SP / HTAB )\n"
+A_IS_X = ("1:1: a: shortest length 1: x",)
+NOT_RULES = "warning: lines that are not all rules [not-read]"
 
 # The grammars that are installed, by their short names: those of other standards by which each is tried, what is found in it then, and a rule of it
 # with the shortest string that it generates. What is found are names that none of these has, and a misprint of RFC 3261, section 25.1.
@@ -443,6 +733,7 @@ KNOWN_ROWS = (
 IDLE = "warning: rule a generates nothing [unproductive]"
 LEADING = f"warning: rule a generates nothing{GAP} [unproductive]"
 NOTHING = ("1:1: a: generates nothing",)
+GONE = ("1.abnf", "b = gone\n")
 GAP_ROWS = (
     # directly, over several rules, and over those of two files
     (("a.abnf", "a = x"), (("1.abnf", 'x = "1" nope'),), (f"1:1: {LEADING}",), NOTHING),
@@ -454,7 +745,29 @@ GAP_ROWS = (
     ),
     (("a.abnf", "a = x"), (("1.abnf", "x = y"), ("2.abnf", "y = nope")), (f"1:1: {LEADING}",), NOTHING),
     (("a.abnf", "a = x"), (("1.abnf", "x = NOPE"), ("2.abnf", 'nope = "1"')), (), ("1:1: a: shortest length 1: 1",)),
+    (("a.abnf", "a = b\n"), (("1.abnf", "b = c\n"), ("2.abnf", "c = Gone gone\n")), (f"1:1: {LEADING}",), NOTHING),
+    # by a rule of the file, in which it stands elsewhere
+    (
+        ("a.md", 'text\n\n```abnf\n  a = d\n  d = b "x"\n```\n'),
+        (GONE,),
+        (f"4:3: {LEADING}", f"5:3: warning: rule d generates nothing{GAP} [unproductive]"),
+        ("4:3: a: generates nothing", "5:3: d: generates nothing"),
+    ),
+    (("a.txt", "1. Rules\n\n   a = b\n"), (("1.txt", "1. More rules\n\n   b = gone\n"),), (f"3:4: {LEADING}",), ("3:4: a: generates nothing",)),
+    # a name of its own that is undefined stands in another rule
+    (
+        ("a.abnf", "a = b\nc = nope\n"),
+        (GONE,),
+        (f"1:1: {LEADING}", "2:1: warning: rule c generates nothing [unproductive]", "2:5: error: undefined rule nope [undefined]"),
+        ("1:1: a: generates nothing", "2:1: c: generates nothing"),
+    ),
+    # it stands beside, and isn't needed
+    (("a.abnf", "a = b / nope\n"), (GONE,), (f"1:1: {LEADING}", "1:9: error: undefined rule nope [undefined]"), NOTHING),
+    # it is needed too, or the rule needs itself: it leads to such a name all the same
+    (("a.abnf", "a = b nope\n"), (GONE,), (f"1:1: {LEADING}", "1:7: error: undefined rule nope [undefined]"), NOTHING),
+    (("a.abnf", "a = b a\n"), (GONE,), (f"1:1: {LEADING}",), NOTHING),
     # a rule that has another alternative, here and there, or that may stand for anything
+    (("a.abnf", "a = b / <words>\n"), (GONE,), (), ("1:1: a: not known",)),
     (("a.abnf", 'a = x / "1"\nb = y\nc = *x'), (("1.abnf", 'x = nope\ny = nope / "2"'),), (), ("1:1: a: shortest length 1: 1", "2:1: b: shortest length 1: 2", "3:1: c: shortest length 0: ")),
     (("a.abnf", "a = x\nb = y"), (("1.abnf", "x = <p> nope\ny = nope ?"),), (), ("1:1: a: not known", "2:1: b: not known")),
     # a rule that leads to itself alone, here and there; one that does, and to such a name too
@@ -466,8 +779,21 @@ GAP_ROWS = (
     ),
     (("a.abnf", "a = x"), (("1.abnf", 'x = x "1"\ny = nope x'),), (f"1:1: {IDLE}",), NOTHING),
     (("a.abnf", "a = a x"), (("1.abnf", "x = nope"),), (f"1:1: {LEADING}",), NOTHING),
+    # rules need themselves, or what no string is of
+    (
+        ("a.abnf", "a = b\nd = %x39-30\n"),
+        (("1.abnf", 'b = b "x"\nc = gone\n'),),
+        (f"1:1: {IDLE}", "2:1: warning: rule d generates nothing [unproductive]", "2:5: warning: range with low above high [empty-range]"),
+        ("1:1: a: generates nothing", "2:1: d: generates nothing"),
+    ),
     # what the file defines itself isn't joined; what is added and what comes again
     (("a.abnf", "a = x\nx = x"), (("1.abnf", "x = nope"),), (f"1:1: {IDLE}", "2:1: warning: rule x generates nothing [unproductive]"), ("1:1: a: generates nothing", "2:1: x: generates nothing")),
+    (
+        ("a.abnf", "a = b\nb = b\n"),
+        (("1.abnf", "b = gone\nc = gone\n"),),
+        (f"1:1: {IDLE}", "2:1: warning: rule b generates nothing [unproductive]"),
+        ("1:1: a: generates nothing", "2:1: b: generates nothing"),
+    ),
     (("a.abnf", "a = x"), (("1.abnf", "x = x\nx = nope"),), (f"1:1: {IDLE}",), NOTHING),
     (("a.abnf", "a = x"), (("1.abnf", "x = x\nx =/ nope"),), (f"1:1: {LEADING}",), NOTHING),
     # a name that the told file uses: alone, and with another one, in whatever rule
@@ -488,8 +814,23 @@ WITH_ROWS = (
         ("1:1: a: generates nothing",),
     ),
     (("a.abnf", 'a = RWS "x" / b\nb = rws'), (("core.abnf", CORE),), (), ("1:1: a: shortest length 1:  ", "2:1: b: shortest length 1:  ")),
+    (("a.abnf", 'a = OWS "x" ows\n'), (("core.abnf", CORE),), (), A_IS_X),
+    (("a.abnf", 'a = RWS "x"\n'), (("1.abnf", "RWS = 1*SP\n"),), (), ("1:1: a: shortest length 2:  x",)),
+    (("a.abnf", ""), (("core.abnf", CORE),), (), ()),
     # an earlier file comes first, and the told one before all; what is added to a name is its file's
     (("a.abnf", "a = x"), (("1.abnf", 'x = "1"'), ("2.abnf", 'x = nope\nx =/ "2"')), (), ("1:1: a: shortest length 1: 1",)),
+    (("a.abnf", "a = x\n"), (("1.abnf", 'x = "1"\n'), ("2.abnf", "x = nope\n")), (), ("1:1: a: shortest length 1: 1",)),
+    (("a.abnf", 'a = b\nb = "x"\n'), (("1.abnf", "b = nope\n"),), (), (*A_IS_X, "2:1: b: shortest length 1: x")),
+    (("a.abnf", 'B = "xx"\na = b c\n'), (("1.abnf", 'b = "y"\nc = "z"\n'),), (), ("1:1: B: shortest length 2: xx", "2:1: a: shortest length 3: xxz")),
+    (
+        ("a.abnf", "a = b\nb = nope\n"),
+        (("1.abnf", 'b = "x"\n'),),
+        (
+            *("1:1: warning: rule a generates nothing [unproductive]", "2:1: warning: rule b generates nothing [unproductive]"),
+            "2:5: error: undefined rule nope [undefined]",
+        ),
+        ("1:1: a: generates nothing", "2:1: b: generates nothing"),
+    ),
     (
         ("a.abnf", "a = x"),
         (("1.abnf", "x = nope"), ("2.abnf", 'x = "1"')),
@@ -509,6 +850,7 @@ WITH_ROWS = (
         ("1:1: a: shortest length 1: x", "2:1: b: shortest length 1: x"),
     ),
     (("a.abnf", "a = b"), (("1.abnf", 'b = nope\nb =/ "y"\n= ?\nc'),), (), ("1:1: a: shortest length 1: y",)),
+    (("a.abnf", 'a = "x"\n'), (("1.abnf", 'b = ?\nc = nope\nc = "x"\n'),), (), A_IS_X),
     # near names: the file's own first, then those of the known files, then the core rules (RFC 5234 appendix B.1)
     (
         ("a.abnf", 'a = sheme / "x"'),
@@ -526,7 +868,28 @@ WITH_ROWS = (
         ),
         ("1:1: a: shortest length 1: x", "2:1: segmen: shortest length 1: y", "3:1: hosta: shortest length 1: y"),
     ),
+    # a nearer name of a known file, in a draft
+    (
+        ("a.md", '```abnf\n  a = segments / "x"\n  segmen = "y"\n```\n'),
+        (("1.abnf", 'segment = "3"\n'),),
+        ("2:7: error: undefined rule segments, did you mean segment? [undefined]",),
+        ("2:3: a: shortest length 1: x", "3:3: segmen: shortest length 1: y"),
+    ),
     # other indents and line ends, and findings at the very end
+    (
+        ("a.abnf", '   a = b\n     / c\n   d = "x"\n'),
+        (("1.abnf", '      b = "x"\n        / "y"\n      e = b\n'), ("2.abnf", 'c = "z"\n')),
+        (),
+        ("1:4: a: shortest length 1: x", "3:4: d: shortest length 1: x"),
+    ),
+    (
+        ("a.abnf", "   a = b\n   c = ?\n"),
+        (("1.abnf", '      b = "x"\n'),),
+        ("2:8: error: bad character [syntax]",),
+        ("1:4: a: shortest length 1: x", "2:4: c: not known"),
+    ),
+    (("a.abnf", "a ="), (("core.abnf", CORE),), ("1:4: error: element expected [syntax]",), ("1:1: a: not known",)),
+    (("a.abnf", 'b = "x"\na'), (("core.abnf", CORE),), (f"2:2: error: {NO_HEAD} [syntax]",), ("1:1: b: shortest length 1: x",)),
     (
         ("a.abnf", "   a = b\r\n     c\r\n   d ="),
         (("1.abnf", '     b = "x"\n       "y"\n     c = "z"'),),
@@ -542,6 +905,38 @@ WITH_ROWS = (
         ("4:3: a: generates nothing",),
     ),
     (("a.md", "text"), (("core.abnf", CORE),), NO_GRAMMAR, ()),
+    (
+        ("a.abnf", "a = b c\n"),
+        (("1.md", '# A title\n\n```abnf\n  b = "x"\n```\n'), ("1.xml", '<artwork type="abnf">c = "y"</artwork>')),
+        (),
+        ("1:1: a: shortest length 2: xy",),
+    ),
+    (
+        ("a.md", "text\n\n```abnf\na = OWS nope\n```\n"),
+        (("core.abnf", CORE),),
+        ("4:1: warning: rule a generates nothing [unproductive]", "4:9: error: undefined rule nope [undefined]"),
+        ("4:1: a: generates nothing",),
+    ),
+    (("a.md", "```abnf\n  a = b\n```\n"), (("1.abnf", 'b = "y"\n'),), (), ("2:3: a: shortest length 1: y",)),
+    # published texts whose names are known, and some that know others
+    (("a.abnf", "a = b\n"), (("1.txt", '1. Rules\n\n   b = "x"\n\nMore words.\n'),), (), A_IS_X),
+    (
+        ("a.txt", '1. Rules\n\n   a = OWS b\n   b = "x"\n'),
+        (("core.abnf", CORE),),
+        (),
+        ("3:4: a: shortest length 1: x", "4:4: b: shortest length 1: x"),
+    ),
+    (("a.txt", "1. Rules\n\n  a = b\n\nx = 5 apples\n"), (("1.abnf", 'b = "y"\n'),), (f"5:1: {NOT_RULES}",), ("3:3: a: shortest length 1: y",)),
+    (
+        ("a.txt", 'x = 5 apples\n\na = nope / "x"\n\n  y = 6\n\n  b = OWS nope / "y"\n'),
+        (("core.abnf", "OWS = *( SP / HTAB )\n"),),
+        (
+            *(f"1:1: {NOT_RULES}", "3:5: error: undefined rule nope [undefined]"),
+            *(f"5:1: {NOT_RULES}", "7:11: error: undefined rule nope [undefined]"),
+        ),
+        ("3:1: a: shortest length 1: x", "7:3: b: shortest length 1: y"),
+    ),
+    (("a.txt", "Some words.\n\n  x = 5 apples\n"), (("1.abnf", 'x = "x"\n'),), (*NO_TEXT, f"3:1: {NOT_RULES}"), ()),
     # definitions that come again: in a draft, and in a file that is a grammar
     (
         ("a.md", "```abnf\na = b\n```\n\n```abnf\na = b\na = c\n```\n"),
@@ -566,6 +961,24 @@ WITH_ROWS = (
         ),
         ("2:1: a: generates nothing", "16:1: d: generates nothing"),
     ),
+    (
+        ("a.md", f"```abnf\na = OWS nope\n{11 * XY}```\n```abnf\nb = nope\n```\n"),
+        (("core.abnf", CORE),),
+        (
+            f"3:3: error: {NO_HEAD}{FIRST_OF_ELEVEN} [syntax]",
+            *("16:1: warning: rule b generates nothing [unproductive]", "16:5: error: undefined rule nope [undefined]"),
+        ),
+        ("2:1: a: generates nothing", "16:1: b: generates nothing"),
+    ),
+    (
+        ("a.xml", f'<artwork type="abnf">{10 * XY}x y</artwork>\n<artwork type="abnf"><![CDATA[b = ?]]></artwork>'),
+        (("core.abnf", CORE),),
+        (f"1:24: error: {NO_HEAD}{FIRST_OF_ELEVEN} [syntax]", "12:35: error: bad character [syntax]"),
+        ("12:31: b: not known",),
+    ),
+    # the faults of a known file don't count, and those of a file that is a grammar are told one by one
+    (("a.md", f"```abnf\n{10 * XY}```\n"), (("1.abnf", ELEVEN),), tuple(f"{line}:3: error: {NO_HEAD} [syntax]" for line in range(2, 12)), ()),
+    (("a.abnf", ELEVEN), (("core.abnf", CORE),), ELEVEN_FAULTS, tuple(f"{line}:1: {name}: not known" for line, name in enumerate("bcdeghijklm", 1))),
     # what can't be read of a draft
     (("a.md", "```abnf\n```\n"), (("core.abnf", CORE),), ("2:1: warning: empty block of grammar [not-read]",), ()),
     (
@@ -575,6 +988,12 @@ WITH_ROWS = (
         ("2:22: a: generates nothing",),
     ),
     (("a.xml", '<artwork src="b" type="abnf"/>'), (("core.abnf", CORE),), (*NO_GRAMMAR, "1:1: warning: grammar in another file [not-read]"), ()),
+    (
+        ("a.xml", '<artwork type="abnf"/>\n<artwork type="abnf">a = OWS ?</artwork>\n<artwork type="abnf" src="b"/>'),
+        (("core.abnf", CORE),),
+        (f"1:1: {NONE_THERE}", "2:30: error: bad character [syntax]", f"3:1: {ELSEWHERE}"),
+        ("2:22: a: not known",),
+    ),
     (("a.xml", "<rfc><!-- a"), (("core.abnf", CORE),), ("1:6: error: comment without an end [xml]",), None),
     # rules that nothing marks
     (("a.md", "```\na = OWS\n```\n~~~abnf\nb = OWS\n~~~\n"), (("core.abnf", CORE),), (f"1:1: {BARE}",), ("5:1: b: shortest length 0: ",)),
@@ -585,11 +1004,61 @@ WITH_ROWS = (
         (f"1:1: {UNTYPED}", "2:22: warning: rule b generates nothing [unproductive]", "2:30: error: undefined rule nope [undefined]"),
         ("2:22: b: generates nothing",),
     ),
+    (("a.xml", '<rfc>\n<artwork name="a">\n  a = "x"\n</artwork></rfc>'), (("core.abnf", CORE),), (*NO_GRAMMAR, f"2:1: {UNTYPED}"), ()),
+    (
+        ("a.xml", '<artwork type="abnf">a = OWS</artwork>\n \u00e9<sourcecode>b = &lt;c&gt;</sourcecode><artwork type="abnf"/>'),
+        (("core.abnf", CORE),),
+        (f"2:3: {UNTYPED}", f"2:41: {NONE_THERE}"),
+        ("1:22: a: shortest length 0: ",),
+    ),
+    *((("a.md", text), (("core.abnf", CORE),), (), (f"{line}:1: b: shortest length 1: x",)) for text, line in MARKED_DRAFTS),
+    *((("a.xml", text), (("core.abnf", CORE),), (), ("1:22: b: shortest length 1: x",)) for text in MARKED_PAGES),
     # texts that are no grammar, and one of which half the blocks have heads
     (("a.abnf", "Some words.\nMore of them.\n"), (("core.abnf", CORE),), NO_TEXT, ()),
     (("a.abnf", "Some words.\nMore of them.\na = ?\n"), (("core.abnf", CORE),), NO_TEXT, ("3:1: a: not known",)),
+    (("a.abnf", "; a\n\n  Some words.\n    More words.\n  And more.\n"), (("core.abnf", CORE),), NO_TEXT, ()),
+    (("a.abnf", "Some words.\na = ?\nMore words.\n"), (("core.abnf", CORE),), NO_TEXT, ("2:1: a: not known",)),
+    (("a.abnf", '= "x"\n= "y"'), (("core.abnf", CORE),), NO_TEXT, ()),
+    (("a.abnf", "Some words.\n"), (("core.abnf", CORE),), (f"1:6: error: {NO_HEAD} [syntax]",), ()),
+    (
+        ("a.abnf", 'Some words.\nMore words.\na = "x"\nAnd more.\n'),
+        (("core.abnf", CORE),),
+        tuple(f"{at}: error: {NO_HEAD} [syntax]" for at in ("1:6", "2:6", "4:5")),
+        ("3:1: a: shortest length 1: x",),
+    ),
     (("a.abnf", "Some words.\na = ?\n"), (("core.abnf", CORE),), (f"1:6: error: {NO_HEAD} [syntax]", "2:5: error: bad character [syntax]"), ("2:1: a: not known",)),
     *GAP_ROWS,
+)
+
+# Files whose names are known, and what is told of them: that they have no grammar, and what of them can't be read or nothing marks.
+NO_KNOWN_TEXT = ("1:1: warning: no grammar in this text [no-grammar]",)
+TOLD_ROWS = (
+    ("prose.abnf", "Some words.\nMore of them.\n", NO_KNOWN_TEXT),
+    ("bare.md", "```\na = b\n```\n", (*NO_GRAMMAR, f"1:1: {BARE}")),
+    ("marked.md", '~~~abnf\nc = "x"\n~~~\n```\na = b\n```\n', (f"4:1: {BARE}",)),
+    ("bare.xml", '<artwork type="abnf">c = "x"</artwork>\n<artwork>a = b</artwork>', (f"2:1: {UNTYPED}",)),
+    # drafts without a grammar, and what has one
+    ("text.md", "text\n", NO_GRAMMAR),
+    ("nothing.md", "", NO_GRAMMAR),
+    ("none.xml", "<rfc/>", NO_GRAMMAR),
+    ("comment.md", "```abnf\n; a\n```\n", ()),
+    ("nothing.abnf", "", ()),
+    ("faulty.abnf", "a = ?", ()),
+    # not all of them is read
+    ("half.md", "```abnf\n```\n```abnf\na = b\n```\n", (f"2:1: {NONE_THERE}",)),
+    ("apart.xml", '<artwork src="a" type="abnf"/>', (*NO_GRAMMAR, f"1:1: {ELSEWHERE}")),
+    ("front.md", "```\na = b\n```\n~~~ abnf\nc = d\n~~~\n", (f"1:1: {BARE}",)),
+    ("untyped.xml", " <artwork>a = b</artwork>", (*NO_GRAMMAR, f"1:2: {UNTYPED}")),
+    ("half.txt", "a = b\n\nx = 5 apples\n", (f"3:1: {NOT_RULES}",)),
+    # texts without a grammar, and with one, be it faulty
+    ("words.abnf", "Some words.\nMore words.\n", NO_KNOWN_TEXT),
+    ("head.abnf", "Some words.\na = ?\nMore words.\n", NO_KNOWN_TEXT),
+    ("words.txt", "Some words.\n\n  More words.\n", NO_KNOWN_TEXT),
+    ("nothing.txt", "", NO_KNOWN_TEXT),
+    ("block.abnf", "Some words.\n", ()),
+    ("heads.abnf", "Some words.\na = ?\n", ()),
+    ("rule.abnf", 'Some words.\nMore words.\na = "x"\n', ()),
+    ("rule.txt", "Some words.\n\n  a = nope\n", ()),
 )
 
 # The grammars of drafts: each block without its indentation, and a line end behind it.
@@ -601,6 +1070,7 @@ GRAMMAR_ROWS = (
     ("a.abnf", "", ""),
     ("a.md", "# A title\n\n```abnf\n  a = b\n   / c\n```\ntext\n~~~abnf\nd = ?\n~~~\n", "a = b\n / c\n\nd = ?\n\n"),
     ("a.xml", '<rfc><artwork type="abnf">\n  a = &lt;b&gt;\n</artwork></rfc>', "\na = <b>\n\n"),
+    ("a.txt", "1. Rules\n\n  a = b\n\f\nRFC 1\n   / c\n\nx = 5 apples\n\nd = e\n", "a = b\n / c\n\nd = e\n\n"),
 )
 
 
@@ -658,16 +1128,17 @@ def draft_cases(program, files):
 def format_cases(program, files):
     """What a file is by its name, and the options that tell it."""
     bad = ("2:5: error: bad character [syntax]",)
-    for name in ("a.mkd", "a.markdown", "a.MD", "a.mD", "a.MKD", "a.Markdown", "a.txt.md"):
+    for name in ("a.mkd", "a.markdown", "a.md", "a.MD", "a.mD", "a.MKD", "a.mKd", "a.Markdown", "A.MARKDOWN", "a.txt.md"):
         file = files.written(name, "```abnf\na = ?\n```\n")
         yield f"a draft {name}", outcome(program, None, [file]), (1, b"", printed(file, bad))
-    for name in ("a.XML", "a.Xml", "a.md.xml"):
+    for name in ("a.XML", "a.Xml", "a.md.xml", "a.txt.Xml"):
         file = files.written(name, '<artwork type="abnf">\na = ?\n</artwork>')
         yield f"a draft {name}", outcome(program, None, [file]), (1, b"", printed(file, bad))
-    for name in ("a.abnf", "md", "a.txt.abnf", "xml", "txt", "a.mdx", "a.MD ", "a.m\u212ad", "a.ABNF", "a"):
+    os.makedirs(files.path("folder.txt"))
+    for name in ("a.abnf", "md", "a.txt.abnf", "xml", "txt", "a.text", "folder.txt/b", "a.mdx", "a.MD ", "a.m\u212ad", "a.ABNF", "a"):
         file = files.written(name, "\na = ?\n")
         yield f"a grammar {name}", outcome(program, None, [file]), (1, b"", printed(file, bad))
-    for name in ("a.txt", "a.TXT", "a.Txt", "a.md.txt"):
+    for name in ("a.txt", "a.TXT", "a.Txt", "A.TXT", ".txt", "a.md.txt", "a.md.tXt"):
         file = files.written(name, "\na = ?\n")
         unread = (*NO_TEXT, "2:1: warning: lines that are not all rules [not-read]")
         yield f"a published text {name}", outcome(program, None, [file]), (1, b"", printed(file, unread))
@@ -676,9 +1147,10 @@ def format_cases(program, files):
     yield "a grammar in spite of its name", outcome(program, None, ["--format", "abnf", plain]), (0, b"", b"")
     yield "a published text in spite of its name", outcome(program, None, ["--format", "text", plain]), (0, b"", b"")
     yield "a draft behind a grammar", outcome(program, None, [good, plain]), (0, b"", printed(plain, NO_GRAMMAR))
-    for words in ("--format", "--format abnf", "--format XML", "--format Abnf", "--format Text", "--format txt", "--format abnf --format abnf", "--format --strict"):
+    for words in ("--format", "--format abnf", "--format XML", "--format Abnf", "--format Text", "--format txt", "--format texts", "--format abnf --format abnf", "--format --strict"):
         yield f"the arguments {words} and a file", outcome(program, None, [*words.split(), *[good] * (words != "--format abnf")]), (5, USAGE, b"")
-    yield "a format behind a file", outcome(program, None, [good, "--format", "abnf"]), (5, USAGE, b"")
+    for words in (["--format"], ["--format", ""], ["--format", "", good], ["--format", "--help"], [good, "--format", "abnf"]):
+        yield f"the arguments {words}", outcome(program, None, words), (5, USAGE, b"")
 
 
 def put_in_place(program, files, name):
@@ -787,25 +1259,24 @@ def with_cases(program, files):
 
 
 def unlike_cases(program, files, core, bad):
-    """Files of --with that are no grammar, or have rules that nothing marks: each is told as a warning, and the others are known all the same."""
+    """Files of --with that are no grammar, or of which not all is read: each is told as a warning, and the others are known all the same."""
     is_bad, rules = printed(bad, ("1:5: error: bad character [syntax]",)), ("1:1: OWS: shortest length 0: ", "2:1: RWS: shortest length 1:  ")
-    for name, text, lines in (
-        ("prose.abnf", "Some words.\nMore of them.\n", ("1:1: warning: no grammar in this text [no-grammar]",)),
-        ("bare.md", "```\na = b\n```\n", (*NO_GRAMMAR, f"1:1: {BARE}")),
-        ("marked.md", '~~~abnf\nc = "x"\n~~~\n```\na = b\n```\n', (f"4:1: {BARE}",)),
-        ("bare.xml", '<artwork type="abnf">c = "x"</artwork>\n<artwork>a = b</artwork>', (f"2:1: {UNTYPED}",)),
-    ):
+    for name, text, lines in TOLD_ROWS:
         other = files.written(name, text)
         warned, words = printed(other, lines), ["--with", other, "--with", core]
         uses = files.written("uses.abnf", "a = RWS")
         yield f"{name} is known", outcome(program, None, [*words, uses]), (0, b"", warned)
-        yield f"strict, {name} is known", outcome(program, None, ["--strict", *words, uses]), (1, b"", warned)
+        yield f"strict, {name} is known", outcome(program, None, ["--strict", *words, uses]), (status_of(lines, True), b"", warned)
         yield f"{name} is known, beside an error", outcome(program, None, [*words, bad]), (1, b"", warned + is_bad)
         yield f"rules where {name} is known", outcome(program, None, ["--rules", *words, core]), (0, b"", printed(core, rules))
     lone, uses = files.written("lone.abnf", "Some words"), files.written("uses.abnf", "a = head")
     yield "a block alone that is no rule is known", outcome(program, None, ["--strict", "--with", lone, core]), (0, b"", b"")
+    several = [files.written(*it) for it in (("words.abnf", "Some words.\nMore words.\n"), ("words.txt", "Some words.\n"), ("b.abnf", 'b = "x"\n'))]
+    words, warned = [word for it in several for word in ("--with", it)], b"".join(printed(it, NO_KNOWN_TEXT) for it in several[:2])
+    a_is_b = files.written("a.abnf", "a = b\n")
+    yield "files without a grammar, and one behind them", outcome(program, None, [*words, a_is_b]), (0, b"", warned)
     prose = files.written("prose.abnf", "Some words.\nMore of them.\nhead = ?\n")
-    warned = printed(prose, ("1:1: warning: no grammar in this text [no-grammar]",))
+    warned = printed(prose, NO_KNOWN_TEXT)
     yield "the names in what is no grammar are known", outcome(program, None, ["--with", prose, uses]), (0, b"", warned)
 
 
@@ -842,7 +1313,7 @@ def grammar_cases(program, files):
             status, _, wrote = outcome(program, None, [files.written("grammar.abnf", grammar)])
             is_told, wanted = but_repeats(without_places(wrote)), but_repeats(without_places(printed(file, found)))
             if any(" faults in this block) [" in it for it in found):
-                wanted = {it.replace(FIRST_OF_ELEVEN.encode(), b"") for it in wanted}
+                wanted = {it.replace(FIRST_OF_ELEVEN.encode(), b"").replace(FIRST_OF_TWELVE.encode(), b"") for it in wanted}
                 yield f"faults in {what}", (status, wanted - {*is_told}), (1, set())
                 continue
             does_repeat = b" [duplicate]" in wrote
@@ -857,10 +1328,10 @@ def argument_cases(program, files):
     """Help, the version, and options before the files."""
     good, bad = files.written("good.abnf", 'a = "x"'), files.written("bad.abnf", "a = ?")
     is_bad = printed(bad, ("1:5: error: bad character [syntax]",))
-    for words in (["--help"], ["--help", "-x"], ["--strict", "--help", "--strict"]):
+    for words in (["--help"], ["--help", "-x"], ["--help", "-x", "--help"], ["--strict", "--help", "--strict"], ["--strict", "--with", "a", "--help"]):
         yield f"the arguments {words}", outcome(program, None, words), (0, b"", HELP)
     told = f"abnf_findings {version()} ({told_kit()})\n".encode()
-    for words in (["--version"], ["--version", "--help"], ["--rules", "--version"]):
+    for words in (["--version"], ["--version", "--help"], ["--rules", "--version"], ["--rules", "--version", "--rules"]):
         yield f"the arguments {words}", outcome(program, None, words), (0, b"", told)
     full = os.open("/dev/full", os.O_WRONLY)
     for option in ("--help", "--version"):
@@ -868,8 +1339,34 @@ def argument_cases(program, files):
     os.close(full)
     yield "files behind --", outcome(program, None, ["--", bad]), (1, b"", is_bad)
     yield "a file like an option behind --", outcome(program, None, ["--strict", "--", good, "--strict"]), (2, b"cannot read --strict\n", b"")
-    for words in (["--"], ["-x", "--help"], [good, "--help"], [good, "--", bad], ["--with"], ["--with", good], ["--with", "--strict", good], ["--rules", "--grammar", good]):
+    yield from order_cases(program, files, bad, is_bad)
+    for words in (
+        *(["--"], ["-x", "--help"], [good, "--help"], [good, "--", bad], ["--with"], ["--with", good]),
+        *(["--with", "--strict", good], ["--with", "--", good], ["--with", good, "--grammar", bad]),
+        *(["--rules", "--grammar", good], ["--strict", "--rules", good]),
+        # options that there aren't
+        *(["--Strict", good], ["--strict=", good]),
+    ):
         yield f"the arguments {words}", outcome(program, None, words), (5, USAGE, b"")
+
+
+def order_cases(program, files, bad, is_bad):
+    """Files in their order, standard input among them, with all options at once, and with names like options and none."""
+    program, odd, base = os.path.abspath(program), files.path("odd"), ("1:1: warning: no earlier definition of a [no-base]",)
+    from_input = printed("-", base)
+    yield "standard input between files", outcome(program, b'a =/ "x"', [bad, "-", bad]), (1, b"", is_bad + from_input + is_bad)
+    known = files.written("known.abnf", 'c = "x"')
+    drafts = [files.written(name, f"~~~ abnf\n{rule}\n~~~\n") for name, rule in (("one", "a = c"), ("two", "b = d"))]
+    words = ["--with", known, "--rules", "--with", "-", "--format", "markdown", *drafts]
+    is_told = printed(drafts[0], ("2:1: a: shortest length 1: x",)) + printed(drafts[1], ("2:1: b: shortest length 1: y",))
+    yield "rules of several drafts, and known files", outcome(program, b'd = "y"', words), (0, b"", is_told)
+    os.makedirs(odd)
+    for name in ("--rules", "--", "-x", "rules"):
+        files.written(os.path.join("odd", name), 'a =/ "x"')
+    is_odd = b"".join(printed(name, base) for name in ("--rules", "--", "-x"))
+    words = ["--strict", "--", "--rules", "--", "-x"]
+    yield "files like options behind --", outcome(program, None, words, folder=odd), (1, b"", is_odd)
+    yield "a file without a name", outcome(program, None, ["", "rules"], folder=odd), (2, b"cannot read \n", printed("rules", base))
 
 
 def version_cases():

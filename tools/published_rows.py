@@ -40,6 +40,7 @@ ROWS = (
     ("\n \t\n", (NO_GRAMMAR,), (), None),
     ("Some prose.\nIn it a = b stands.\n", (NO_GRAMMAR,), (), None),
     ('Grammar:\n   a = "x"\n', (NO_GRAMMAR,), (), None),
+    ("Some words:\na = b\n", (NO_GRAMMAR,), (), None),
     ("Dear reader,\n\n  this text has no rules.\nThe = sign stands in it.\n\nYours,\nA. Author\n", (NO_GRAMMAR,), (), None),
     ("<html>\n<p>a = b</p>\n\n</html>\n", (NO_GRAMMAR,), (), None),
     ("<html>\n<title>a = b</title>\n\n<script>\nx = 1;\n</script>\n\n  width = 100%;\n</html>\n", (NO_GRAMMAR, not_read(8)), (), None),
@@ -53,6 +54,23 @@ ROWS = (
         ("3:4: warning: rule a generates nothing [unproductive]", "3:8: error: undefined rule nope [undefined]"),
         ("3:4: a: generates nothing",),
         "a = nope\n\n",
+    ),
+    ("1. Rules\n\n   a = DIGIT\n", (), ("3:4: a: shortest length 1: 0",), "a = DIGIT\n\n"),
+    (
+        '1. Rules\n\n   a = nope\n\n   b = "x"\n',
+        ("3:4: warning: rule a generates nothing [unproductive]", "3:8: error: undefined rule nope [undefined]"),
+        ("3:4: a: generates nothing", "5:4: b: shortest length 1: x"),
+        'a = nope\n\nb = "x"\n\n',
+    ),
+    (
+        '1. Rules\n\n  a = b\n   / nope\n\n  d = 3*2"x"\n',
+        (
+            "3:3: warning: rule a generates nothing [unproductive]",
+            *("3:7: error: undefined rule b [undefined]", "4:6: error: undefined rule nope [undefined]"),
+            *("6:3: warning: rule d generates nothing [unproductive]", "6:7: warning: repeat with minimum above maximum [empty-repeat]"),
+        ),
+        ("3:3: a: generates nothing", "6:3: d: generates nothing"),
+        'a = b\n / nope\n\nd = 3*2"x"\n\n',
     ),
     (
         '   a = "x"\n\n\t  b = a c\n',
@@ -81,6 +99,8 @@ ROWS = (
     ),
     # lines that begin as a rule does and aren't all rules
     ("   a = ?\n", (NO_GRAMMAR, not_read(1)), (), None),
+    ("a = ALPHA\n\n  x = 5 apples\n", (not_read(3),), ("1:1: a: shortest length 1: A",), "a = ALPHA\n\n"),
+    ("Some words.\n\nx = 5 apples\n", (NO_GRAMMAR, not_read(3)), (), None),
     ("Text.\n\n   a =\n\n   big = %x100000000\n", (NO_GRAMMAR, not_read(3), not_read(5)), (), None),
     (f"   deep = {65 * '('}\"x\"{65 * ')'}\n\n   a = 1#b\n", (NO_GRAMMAR, not_read(1), not_read(3)), (), None),
     ('   ; first\n   a = "x"\n   b = ?\n', (NO_GRAMMAR, not_read(1)), (), None),
@@ -94,12 +114,24 @@ ROWS = (
     ),
     # definitions that come again
     (
+        'a = "x"\n\n  A = "x" ; a\n\n a = "y"\n',
+        ("5:2: error: rule a differs from its definition at line 1 [differs]",),
+        ("1:1: a: shortest length 1: x",),
+        'a = "x"\n\nA = "x" ; a\n\na = "y"\n\n',
+    ),
+    (
         '   a = "x"\n\nText.\n\n   A  =  "x"  ; again\n\n   a = "y"\n',
         ("7:4: error: rule a differs from its definition at line 1 [differs]",),
         A_IS_X,
         'a = "x"\n\nA  =  "x"  ; again\n\na = "y"\n\n',
     ),
     # a rule that goes over a page break, behind blank lines or not
+    (
+        '\u00e9\n\n  a = "x"\n\nDoe [Page 3]\n\f\nRFC 1\n\n    / nope\n',
+        ("9:7: error: undefined rule nope [undefined]",),
+        ("3:3: a: shortest length 1: x",),
+        'a = "x"\n  / nope\n\n',
+    ),
     (f'   a = "x"\n\n{PAGE}\n      "y"\n', (), A_IS_XY, 'a = "x"\n   "y"\n\n'),
     (f'   a = "x"\n{PAGE}      "y" nope\n', GOES_OVER[1:], GOES_OVER[:1], 'a = "x"\n   "y" nope\n\n'),
     (f'   a = "x"\n\n{PAGE}\n      "y"\n   b = a\n', (), (*A_IS_XY, "8:4: b: shortest length 2: xy"), 'a = "x"\n   "y"\nb = a\n\n'),

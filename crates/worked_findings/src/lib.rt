@@ -1,38 +1,23 @@
-//! Worked rows of `abnf_findings`: near names, files whose names are known, drafts and published texts, blocks with many faults, texts that
-//! are no grammar, printed grammars, and arguments.
+//! Worked rows of what no line of `abnf_findings` shows: where each character of a grammar that is gathered begins in its file, what may have
+//! to be said of blocks, joined grammars, repeated definitions, and how many blocks of a text are rules.
 //!
-//! They stand above the crates that they test, since a crate with tests is proved twice.
+//! What it prints is in `tools/findings_rows.py` and `tools/published_rows.py`. The tests stand above the crates that they test, since a crate
+//! with tests is proved twice.
 #![tactic(auto)]
 
-#[cfg(test)]
-mod arguments;
 #[cfg(test)]
 mod counts;
 #[cfg(test)]
 mod drafts;
 #[cfg(test)]
-mod floods;
-#[cfg(test)]
-mod gaps;
-#[cfg(test)]
-mod grammars;
-#[cfg(test)]
-mod hints;
+mod files;
 #[cfg(test)]
 mod joins;
 #[cfg(test)]
 mod near;
-#[cfg(test)]
-mod no_grammar;
-#[cfg(test)]
-mod printed_texts;
 #[cfg(test)]
 mod published;
 #[cfg(test)]
 mod repeats;
 #[cfg(test)]
 mod texts;
-#[cfg(test)]
-mod unmarked;
-#[cfg(test)]
-mod with_files;

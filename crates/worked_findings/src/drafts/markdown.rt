@@ -41,17 +41,6 @@ const FENCES: &[Row] = &[
     ("```abnf\n```\n", "\n", &[(0, 8)]),
 ];
 
-const NO_BLOCKS: &[&str] = &[
-    "",
-    "a = b\n",
-    "``abnf\na = b\n``\n",
-    "```\nabnf\n```\n",
-    "```abnfx\na = b\n```\n",
-    "``` xml abnf\na = b\n```\n",
-    "```abnf `\na = b\n",
-    "~~~text\n```abnf\na = b\n```\n~~~\n",
-];
-
 const LINES: &[Row] = &[
     (
         "```abnf\r\na = b\r\n```\r\n",
@@ -112,16 +101,6 @@ fn finds_fences(rt: HostRuntime) -> Result<(), TextFault> {
     assert!(rt; rows.len() >= 10);
     for (draft, grammar, places) in rows {
         assert!(rt; has_grammar(rt.alloc(), draft, grammar, places)?, "{draft}");
-    }
-    Ok(())
-}
-
-#[test]
-fn passes_over_the_rest(rt: HostRuntime) -> Result<(), TextFault> {
-    let rows = NO_BLOCKS;
-    assert!(rt; rows.len() >= 8);
-    for draft in rows {
-        assert!(rt; has_grammar(rt.alloc(), draft, "", &[])?, "{draft}");
     }
     Ok(())
 }

@@ -6,5 +6,4 @@ mod asides;
 mod gathered;
 mod markdown;
 mod unmarked;
-mod unread;
 mod xml;

@@ -50,28 +50,6 @@ const BARE: &[Row] = &[
     ),
 ];
 
-/// Drafts in Markdown without such a fence.
-const MARKED: &[&str] = &[
-    "",
-    "a = b\n",
-    "``\na = b\n``\n",
-    // there is an info string
-    "```text\na = b\n```\n",
-    "~~~ x\na = b\n~~~\n",
-    "~~~ {.a}\na = b\n~~~\n",
-    "```abnf\na = b\n```\n",
-    // an attribute list stands before it or behind it, or between two
-    "{: .text}\n```\na = b\n```\n",
-    "{: .abnf}\n```\na = b\n```\n",
-    "\t{\n~~~\na = b\n~~~\n",
-    "```\na = b\n```\n{: #a}\n",
-    "```\na = b\n```\n  {.abnf}\n",
-    "```\na\n```\n{: .a}\n```\nb\n```\n",
-    // it stands in a comment, or in another block
-    "<!--\n```\na = b\n```\n-->\n",
-    "~~~text\n```\na = b\n```\n~~~\n",
-];
-
 /// Elements without a type in drafts in RFCXML.
 const UNTYPED: &[Row] = &[
     (
@@ -136,31 +114,11 @@ const UNTYPED: &[Row] = &[
         "<artwork>a</artwork><artwork>b<!-- </artwork>",
         &[(0, Lack::Untyped, "a\n")],
     ),
-];
-
-/// Drafts in RFCXML without such an element.
-const TYPED: &[&str] = &[
-    "",
-    "a = b",
-    // it has a type, or its text is in another file
-    "<sourcecode type=\"abnf\">a = b</sourcecode>",
-    "<sourcecode type = 'xml'>a = b</sourcecode>",
-    "<artwork type=\"\">a = b</artwork>",
-    "<artwork\ntype=\"abnf\">a = b</artwork>",
-    "<artwork src=\"a\">a = b</artwork>",
-    // it is empty, or another one
-    "<artwork/>a = b",
-    "<artwork name=\"a\" />a = b</artwork>",
-    "<artworks>a = b</artworks>",
-    "<Artwork>a = b</Artwork>",
-    "<figure>a = b</figure>",
-    // its end tag never comes
-    "<artwork>a = b",
-    "<artwork>a = b</sourcecode>",
-    "<artwork>a = b<!-- </artwork>",
-    // it stands in a comment or a section
-    "<!-- <artwork>a = b</artwork> -->",
-    "<![CDATA[<artwork>a = b</artwork>]]>",
+    ("<artwork>a = b<!-- </artwork>", &[]),
+    (
+        "<artwork type=\"abnf\"/><!-- <artwork type=\"abnf\"/>",
+        &[(0, Lack::Empty, "")],
+    ),
 ];
 
 #[test]
@@ -170,25 +128,15 @@ fn finds_bare_fences(rt: HostRuntime) -> Result<(), TextFault> {
     for (draft, wanted) in rows {
         assert!(rt; is_said_of_markdown(rt.alloc(), draft, wanted)?, "{draft}");
     }
-    let rows = MARKED;
-    assert!(rt; rows.len() >= 15);
-    for draft in rows {
-        assert!(rt; is_said_of_markdown(rt.alloc(), draft, &[])?, "{draft}");
-    }
     Ok(())
 }
 
 #[test]
 fn finds_elements_without_a_type(rt: HostRuntime) -> Result<(), XmlFault> {
     let rows = UNTYPED;
-    assert!(rt; rows.len() >= 13);
+    assert!(rt; rows.len() >= 15);
     for (draft, wanted) in rows {
         assert!(rt; is_said_of_xml(rt.alloc(), draft, wanted)?, "{draft}");
-    }
-    let rows = TYPED;
-    assert!(rt; rows.len() >= 17);
-    for draft in rows {
-        assert!(rt; is_said_of_xml(rt.alloc(), draft, &[])?, "{draft}");
     }
     Ok(())
 }

@@ -68,49 +68,6 @@ const PIECES: &[Row] = &[
     ),
 ];
 
-const NO_BLOCKS: &[&str] = &[
-    "",
-    "a = b & c\n",
-    "<sourcecode>a = b</sourcecode>",
-    "<sourcecode type=\"xml\">a = b</sourcecode>",
-    "<sourcecodes type=\"abnf\">a = b</sourcecodes>",
-    "<Artwork type=\"abnf\">a = b</Artwork>",
-    "<artwork name=\" type='abnf'\">a = b</artwork>",
-    "<artwork type=\"abnf\"/>a = b",
-    "<![CDATA[<artwork type=\"abnf\">]]>",
-    "<?xml version=\"1.0\"?><!DOCTYPE rfc>",
-];
-
-const FAULTS: &[(&'static str, XmlFault)] = &[
-    (
-        "x<sourcecode type=\"abnf\">a</artwork>",
-        XmlFault::BlockWithoutEnd(1),
-    ),
-    ("ab<!-- -", XmlFault::CommentWithoutEnd(2)),
-    ("<![CDATA[ ]]", XmlFault::SectionWithoutEnd(0)),
-    ("<a b=\">", XmlFault::TagWithoutEnd(0)),
-    (
-        "<artwork type=\"abnf\">&amp </artwork>",
-        XmlFault::BadReference(21),
-    ),
-    (
-        "<artwork type=\"abnf\">&#xD800;</artwork>",
-        XmlFault::BadReference(21),
-    ),
-    (
-        "<artwork type=\"abnf\">&#x110000;</artwork>",
-        XmlFault::BadReference(21),
-    ),
-    (
-        "<artwork type=\"abnf\">&#;</artwork>",
-        XmlFault::BadReference(21),
-    ),
-    (
-        "<artwork type=\"abnf\"><!-- </artwork>",
-        XmlFault::CommentWithoutEnd(21),
-    ),
-];
-
 /// A draft that is at fault, the grammar in front of that, the places of characters, as in a [`Row`], and the fault.
 type Front = (
     &'static str,
@@ -157,14 +114,6 @@ fn has_grammar(
     Ok(is_gathered(&gather_xml(alloc, draft)?, grammar, places))
 }
 
-/// Whether a draft has this fault.
-fn has_fault(alloc: Global, draft: &str, fault: XmlFault) -> bool {
-    match gather_xml(alloc, draft) {
-        Ok(_) => false,
-        Err(found) => found == fault,
-    }
-}
-
 #[test]
 fn finds_blocks(rt: HostRuntime) -> Result<(), XmlFault> {
     let rows = BLOCKS;
@@ -183,25 +132,6 @@ fn reads_pieces(rt: HostRuntime) -> Result<(), XmlFault> {
         assert!(rt; has_grammar(rt.alloc(), draft, grammar, places)?, "{draft}");
     }
     Ok(())
-}
-
-#[test]
-fn passes_over_the_rest(rt: HostRuntime) -> Result<(), XmlFault> {
-    let rows = NO_BLOCKS;
-    assert!(rt; rows.len() >= 10);
-    for draft in rows {
-        assert!(rt; has_grammar(rt.alloc(), draft, "", &[])?, "{draft}");
-    }
-    Ok(())
-}
-
-#[test]
-fn finds_faults(rt: HostRuntime) {
-    let rows = FAULTS;
-    assert!(rt; rows.len() >= 9);
-    for (draft, fault) in rows {
-        assert!(rt; has_fault(rt.alloc(), draft, *fault), "{draft}");
-    }
 }
 
 #[test]
