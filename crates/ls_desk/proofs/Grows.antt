@@ -379,6 +379,10 @@ kept_room B J C N O longest most room J' N' O' room' kept same_d same_w same_v s
       reserved = let r = kept.reserved in omega arith;
     }))
 
+-- room that was made for a state is there for the same state in another place
+pub room_for : (x y : Option State) (j : HeldJournal) (n : ℕ) → x ≡ y → length (journal_after y j.items) + n + 1 ≤ room_after y j → length (journal_after x j.items) + n + 1 ≤ room_after x j
+room_for x y j n same room = subst (λ (s : Option State). length (journal_after s j.items) + n + 1 ≤ room_after s j) (sym same) room
+
 -- ---- the present state, from what a desk holds
 
 entry_is : (e : OutboxEntry) (o : Out) → IsOutFor e o → WereTaken (e ∷ []) → entry_for o ≡ e

@@ -11,18 +11,20 @@ ghost use Rattle.std.specs.Option.{option_map};
 ghost use Rattle.std.specs.Str.{chars};
 ghost use Rattle.ls_text.specs.Edits.{is_too_large};
 ghost use Rattle.ls_text.specs.Lines.{max_bytes};
-ghost use Rattle.ls_machine.specs.Machine.{is_open, document_of, is_held, is_queued, left_at, asked, asks_with, requests, id_waits, told_if_found, request_cancelled, waits};
+ghost use Rattle.ls_machine.specs.Machine.{is_open, document_of, is_held, is_queued, left_at, asked, asks_with, requests, id_waits, told_if_found, request_cancelled, waits, edited_at, measured};
 ghost use Rattle.ls_machine.specs.Counts.{first, no_events};
 ghost use Rattle.ls_machine.specs.Same.{is_for};
 ghost use Rattle.ls_desk.specs.Stands.{Enters, Sends, IsSound, StandsAt, counts_of, failures, fresh, state_of, used};
 ghost use Rattle.ls_desk.specs.Faults.{Accepts, open_fault, open_shared_fault, sized_open_fault, Refuses, end_fault, is_session_full, finish_fault, request_fault, take_fault, give_back_fault, cancel_fault, full_fault, kept_of, IsFirstCause, IsJobOf, Takes};
 ghost use Rattle.ls_desk.specs.Door.{text_closed_by};
+ghost use Rattle.ls_desk.specs.own.Puts.{next_of};
 
 use crate::history::History;
 use crate::job::{asked, has_failed, job_of, kept_for};
 use crate::outs::{
     REQUEST_CANCELLED, failures, put_failure, put_finished, replies_at_end, ticket_of,
 };
+use crate::prepared::{Asking, Change, Ending, Opening, Query};
 use crate::present::Present;
 use crate::room::{
     put_replies, room_for_event, room_for_job, room_for_next, room_for_replies, room_for_text,
@@ -190,13 +192,14 @@ impl Desk {
         Ok(Some(state))
     }
 
-    /// The document whose text ends, and what is answered then, or the refusal that comes first.
+    /// The document whose text ends, and what its end leaves, or the refusal that comes first.
     #[tactic(auto, using(crate::proofs::Rules::desk_rules))]
-    fn ends(&self, uri: &Text) -> Result<(&Document, VecDeque<Out>), DeskFault>
+    fn ends(&self, uri: &Text) -> Result<(&Document, Ending), DeskFault>
         ensures document { IfOk result (λ found. document_of uri.now (state_of self.now).documents ≡ Some found.0.now) }
-        ensures replies { IfOk result (λ found. found.1.items ≡ failures uri.now (state_of self.now).waiting) }
+        ensures state { IfOk result (λ found. found.1.state ≡ fresh self.now) }
+        ensures replies { IfOk result (λ found. found.1.replies.items ≡ failures uri.now (state_of self.now).waiting) }
         ensures none { OnOk result (end_fault self.now uri.now ≡ None) }
-        ensures room { IfOk result (λ found. used self.now + (1 + length found.1.items) ≤ self.now.max_events) }
+        ensures room { IfOk result (λ found. used self.now + (1 + length found.1.replies.items) ≤ self.now.max_events) }
         ensures err { IfErr result (λ fault. IsFirstCause (end_fault self.now uri.now) fault) }
     {
         let documents = self.present.documents.as_slice();
@@ -207,7 +210,31 @@ impl Desk {
             return Err(DeskFault::SessionFull);
         }
         let replies = failures(self.alloc, uri, self.present.waiting.as_slice())?;
-        Ok((document, replies))
+        let state = self.fresh()?;
+        Ok((document, Ending { state, replies }))
+    }
+
+    /// What a change leaves, or the refusal that comes first.
+    fn changed(&self, uri: &Text, label: i64, edits: List<Edit>) -> Result<Change, DeskFault>
+        ensures open { OnOk result (is_open uri.now (state_of self.now).documents ≡ true) }
+        ensures state { IfOk result (λ change. change.ending.state ≡ fresh self.now) }
+        ensures replies { IfOk result (λ change. change.ending.replies.items ≡ failures uri.now (state_of self.now).waiting) }
+        ensures next { IfOk result (λ change. change.next ≡ next_of (state_of self.now).next_version (state_of self.now).next_ticket uri.now label (edited_at (document_of uri.now (state_of self.now).documents) edits)) }
+        ensures edits { IfOk result (λ change. change.edits ≡ edits) }
+        ensures none { OnOk result (end_fault self.now uri.now ≡ None) }
+        ensures room { IfOk result (λ change. used self.now + (1 + length change.ending.replies.items) ≤ self.now.max_events) }
+        ensures err { IfErr result (λ fault. IsFirstCause (end_fault self.now uri.now) fault) }
+    {
+        let (document, ending) = self.ends(uri)?;
+        let next = self
+            .present
+            .changed_text(self.alloc, uri, label, document, edits.as_slice())?;
+        let edits = Boxed::new(self.alloc, edits)?;
+        Ok(Change {
+            ending,
+            next,
+            edits,
+        })
     }
 
     /// Changes a document by edits, each on the text that the ones before it left, and gives the version of the new text. That has a job
@@ -227,14 +254,14 @@ impl Desk {
         ensures ok { IfOk result (λ version. Accepts (end_fault self.old uri) self.old self.new (Event.Changed uri label edits version)) }
         ensures err { IfErr result (λ fault. Refuses (end_fault self.old uri) self.old self.new fault) }
     {
-        let (document, replies) = self.ends(&uri)?;
-        let next = self
-            .present
-            .changed_text(self.alloc, &uri, label, document, edits.as_slice())?;
-        let edits = Boxed::new(self.alloc, edits)?;
-        let state = self.fresh()?;
-        room_for_next(&mut self.present.waiting, &next)?;
-        put_replies(&mut self.history.events, &state, &mut self.outbox, replies)?;
+        let mut change = self.changed(&uri, label, edits)?;
+        room_for_next(&mut self.present.waiting, &change.next)?;
+        put_replies(
+            &mut self.history.events,
+            &mut self.outbox,
+            &mut change.ending,
+        )?;
+        let (state, next, edits) = change.into_parts();
         let version = self.present.change(&uri, next);
         self.history.enter(
             state,
@@ -259,9 +286,9 @@ impl Desk {
         ensures ok { OnOk result (Accepts (end_fault self.old uri) self.old self.new (Event.Closed uri)) }
         ensures err { IfErr result (λ fault. Refuses (end_fault self.old uri) self.old self.new fault) }
     {
-        let (_, replies) = self.ends(&uri)?;
-        let state = self.fresh()?;
-        put_replies(&mut self.history.events, &state, &mut self.outbox, replies)?;
+        let (_, mut ending) = self.ends(&uri)?;
+        put_replies(&mut self.history.events, &mut self.outbox, &mut ending)?;
+        let state = ending.into_state();
         self.present.close(&uri);
         self.history.enter(state, Event::Closed { uri });
         Ok(())
@@ -362,6 +389,23 @@ impl Desk {
         Ok(asked(document, self.present.next_ticket, id, question, links)?)
     }
 
+    /// What a request leaves, or the refusal that comes first.
+    fn asking(&self, id: Id, uri: &Text, question: Ask, links: bool) -> Result<Asking, DeskFault>
+        ensures state { IfOk result (λ asking. asking.state ≡ fresh self.now) }
+        ensures job { IfOk result (λ asking. option_map (asked (state_of self.now).next_ticket id question links) (document_of uri.now (state_of self.now).documents) ≡ Some asking.job) }
+        ensures id { IfOk result (λ asking. asking.query.id ≡ id) }
+        ensures ask { IfOk result (λ asking. asking.query.ask ≡ question) }
+        ensures none { OnOk result (request_fault self.now id uri.now ≡ None) }
+        ensures possible { OnOk result ((requests (state_of self.now).waiting < 1024) × (id_waits id (state_of self.now).waiting ≡ false)) }
+        ensures room { OnOk result (used self.now + 1 ≤ self.now.max_events) }
+        ensures err { IfErr result (λ fault. IsFirstCause (request_fault self.now id uri.now) fault) }
+    {
+        let job = self.asked(&id, uri, &question, links)?;
+        let query = Query::new(self.alloc, id, question)?;
+        let state = self.fresh()?;
+        Ok(Asking { state, job, query })
+    }
+
     /// A request about a document waits from now on, with the text that the document has now. Gives its ticket, from 1 over the session.
     /// Findings are asked for by the desk alone. `links` says whether the client takes edits of a workspace as `documentChanges` (LSP 3.17,
     /// "WorkspaceEdit").
@@ -382,16 +426,14 @@ impl Desk {
         ensures ok { IfOk result (λ ticket. Accepts (request_fault self.old id uri) self.old self.new (Event.Asked id uri question links ticket)) }
         ensures err { IfErr result (λ fault. Refuses (request_fault self.old id uri) self.old self.new fault) }
     {
-        let job = self.asked(&id, &uri, &question, links)?;
-        let id = Boxed::new(self.alloc, id)?;
-        let ask = Boxed::new(self.alloc, question)?;
-        let state = self.fresh()?;
+        let asking = self.asking(id, &uri, question, links)?;
         room_for_job(
             &mut self.present.waiting,
             &mut self.history.events,
-            &state,
+            &asking.state,
             self.outbox.len(),
         )?;
+        let (state, job, id, ask) = asking.into_parts();
         let ticket = self.present.ask(job);
         self.history.enter(
             state,
@@ -627,6 +669,22 @@ impl Desk {
         Ok(())
     }
 
+    /// What an opening leaves.
+    fn opening(
+        &self,
+        uri: &Text,
+        label: i64,
+        text: &SharedSnapshot,
+        encoding: Encoding,
+    ) -> Result<Opening, AllocError>
+        ensures state { IfOk result (λ opening. opening.state ≡ fresh self.now) }
+        ensures next { IfOk result (λ opening. Some opening.next ≡ next_of (state_of self.now).next_version (state_of self.now).next_ticket uri.now label (Some (measured encoding text.now))) }
+    {
+        let next = self.present.next_text(uri, label, text, encoding)?;
+        let state = self.fresh()?;
+        Ok(Opening { state, next })
+    }
+
     /// Opens a document against which nothing stands.
     fn put_open(
         &mut self,
@@ -641,14 +699,14 @@ impl Desk {
         ensures ok { IfOk result (λ version. Enters self.old self.new (Event.Opened uri label text encoding version)) }
         ensures err { OnErr result (self.new ≡ self.old) }
     {
-        let next = self.present.next_text(&uri, label, &text, encoding)?;
-        let state = self.fresh()?;
+        let opening = self.opening(&uri, label, &text, encoding)?;
         room_for_text(
             &mut self.present,
             &mut self.history.events,
-            &state,
+            &opening.state,
             self.outbox.len(),
         )?;
+        let (state, next) = opening.into_parts();
         let version = self.present.open(next);
         self.history.enter(
             state,

@@ -1,5 +1,5 @@
 //! A job: what a request makes of it, what a worker is given, and what it leaves once it has run.
-ghost use Rattle.std.specs.Prelude.{◌≡◌, IfOk, IfSome, is_none};
+ghost use Rattle.std.specs.Prelude.{◌≡◌, IfOk, IfSome, false, is_none};
 ghost use Rattle.ls_answers.specs.Answers.{IsAnswer};
 ghost use Rattle.ls_machine.specs.Machine.{asked};
 ghost use Rattle.ls_desk.specs.Faults.{kept_for, IsJobOf};
@@ -8,6 +8,32 @@ use ls_answers::{Ask, Done, Job};
 use ls_machine::{Document, Kept, Request, Waiting};
 use ls_rpc::Id;
 use std::alloc::AllocError;
+
+/// A job about the text that a document has now.
+///
+/// # Errors
+///
+/// Where an allocation is refused.
+pub fn about(
+    document: &Document,
+    ticket: u64,
+    ask: Ask,
+    request: Option<Request>,
+) -> Result<Waiting, AllocError>
+    ensures { IfOk result (λ job. job ≡ record { ticket = ticket; ask = ask; uri = document.now.uri; version = document.now.version; label = document.now.label; text = document.now.text; encoding = document.now.encoding; request = request; taken = false }) }
+{
+    Ok(Waiting {
+        ticket,
+        ask,
+        uri: document.uri.copy()?,
+        version: document.version,
+        label: document.label,
+        text: document.text.again()?,
+        encoding: document.encoding,
+        request,
+        taken: false,
+    })
+}
 
 /// The job that a request makes.
 ///
@@ -23,20 +49,9 @@ pub fn asked(
 ) -> Result<Waiting, AllocError>
     ensures { IfOk result (λ job. job ≡ asked ticket id.now ask.now links document.now) }
 {
-    Ok(Waiting {
-        ticket,
-        ask: ask.copy()?,
-        uri: document.uri.copy()?,
-        version: document.version,
-        label: document.label,
-        text: document.text.again()?,
-        encoding: document.encoding,
-        request: Some(Request {
-            id: id.copy()?,
-            links,
-        }),
-        taken: false,
-    })
+    let ask = ask.copy()?;
+    let id = id.copy()?;
+    about(document, ticket, ask, Some(Request { id, links }))
 }
 
 /// What a worker is given for a job.

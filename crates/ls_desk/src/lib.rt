@@ -24,6 +24,7 @@ mod history;
 mod job;
 mod journal;
 mod outs;
+mod prepared;
 mod present;
 mod room;
 mod texts;

@@ -4,6 +4,7 @@ ghost use Rattle.ls_machine.specs.declared.state.Waiting.{Waiting};
 ghost use Rattle.ls_machine.specs.Machine.{is_open, going_on, others, without_first_job, on_first, with_taken, edited_at, measured, version_if};
 ghost use Rattle.ls_desk.specs.own.Puts.{next_of, documents_of, jobs_of, count_of};
 
+use crate::job::about;
 use crate::texts::Next;
 use ls_answers::Ask;
 use ls_lists::Text;
@@ -82,17 +83,7 @@ impl Present {
             text: text.again()?,
             encoding,
         };
-        let waiting = Waiting {
-            ticket: self.next_ticket,
-            ask: Ask::Diagnose,
-            uri: uri.copy()?,
-            version: self.next_version,
-            label,
-            text: text.again()?,
-            encoding,
-            request: None,
-            taken: false,
-        };
+        let waiting = about(&document, self.next_ticket, Ask::Diagnose, None)?;
         Ok(Next { document, waiting })
     }
 
@@ -128,7 +119,8 @@ impl Present {
         ensures version { self.new.next_version ≡ self.old.next_version + count_of next }
         ensures ticket { self.new.next_ticket ≡ self.old.next_ticket + count_of next }
     {
-        if let Some(Next { document, waiting }) = next {
+        if let Some(next) = next {
+            let (document, waiting) = next.into_parts();
             self.documents.push_reserved(document);
             self.waiting.push_reserved(waiting);
             self.next_version += 1;

@@ -10,10 +10,30 @@ use ls_text::{Snapshot, TextFault};
 use std::alloc::{AllocError, Global};
 
 /// A text that is to stand at a desk, and the job to diagnose it.
-#[derive(Drop)]
 pub struct Next {
     pub document: Document,
     pub waiting: Waiting,
+}
+
+// Not derived, so that what lets one go is proved without its fields.
+impl Drop for Next {
+    fn drop(self) {
+        let Next {
+            document: _,
+            waiting: _,
+        } = self;
+    }
+}
+
+impl Next {
+    /// Its document and its job.
+    pub fn into_parts(self) -> (Document, Waiting)
+        ensures document { result.0 ≡ self.document }
+        ensures waiting { result.1 ≡ self.waiting }
+    {
+        let Next { document, waiting } = self;
+        (document, waiting)
+    }
 }
 
 /// The text of a document that is to be opened, which isn't too large, as the desk keeps it. All of it is read.

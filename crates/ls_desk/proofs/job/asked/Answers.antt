@@ -1,20 +1,10 @@
-use mir.Val.{to_z, of_z}
-use Rattle.std.proofs.Common.{◌≡◌, false, rules, w64}
-use Rattle.std.specs.Prelude.{Some}
+use Rattle.std.proofs.Common.{◌≡◌, subst}
+use Rattle.std.specs.Prelude.{IfOk}
+use Rattle.ls_machine.specs.declared.state.Waiting.{Waiting}
+use Rattle.ls_machine.specs.Machine.{asked}
 use Rattle.ls_desk.proofs.job.asked.Goals as goal
 
 pub returns : goal.returns
 returns c =
-    let document = c.args.document.now in
-    let label : to_z w64 (of_z w64 c.args.document.now.label) ≡ c.args.document.now.label = search rules in
-    λ i. record {
-      ticket = c.args.ticket;
-      ask = c.in_ok-copy.ensures.copy i;
-      uri = c.in_ok-copy-2.ensures i;
-      version = document.version;
-      label = label i;
-      text = c.in_ok-again.ensures i;
-      encoding = document.encoding;
-      request = Some (record { id = c.in_ok-copy-3.ensures.ok i; links = c.args.links });
-      taken = false;
-    }
+    let P : Waiting → Type 0 = λ w. IfOk c.about.result (λ job. job ≡ w) in
+    subst P (λ i. asked c.args.ticket (c.in_ok-id.ensures.ok i) (c.in_ok-ask.ensures.copy i) c.args.links c.args.document.now) c.about.ensures

@@ -5,9 +5,8 @@ use Rattle.ls_machine.specs.declared.state.Document.{Document}
 use Rattle.ls_machine.specs.declared.state.Waiting.{Waiting}
 use Rattle.ls_desk.specs.Stands.{Enters, state_of}
 use Rattle.std.proofs.lemmas.Int.{to_z-of_z}
-use Rattle.ls_machine.specs.Machine.{measured}
-use Rattle.ls_desk.specs.own.Puts.{next_of, documents_of, jobs_of}
-use Rattle.ls_desk.proofs.Grows.{Entered, Holds, entered, kept_room, seen, stands}
+use Rattle.ls_desk.specs.own.Puts.{documents_of, jobs_of}
+use Rattle.ls_desk.proofs.Grows.{Entered, Holds, entered, kept_room, room_for, seen, stands}
 use Rattle.ls_desk.proofs.Events.{opened}
 use Rattle.ls_desk.proofs.desk.Desk.put_open.Goals as goal
 use Rattle.ls_desk.proofs.desk.Desk.put_open.Goals.{After-enter}
@@ -23,22 +22,20 @@ version_is c = c.open-version.ensures.result ∙ c.room_for_text.ensures.version
 held : (c : After-enter) → Holds (state_of c.args.self.now) c.self.inside.present c.self.inside.outbox.items
 held c = stands c.self.inside.history _ _ _ _ _ c.self.invariant c.self.view_is
 
-next_is : (c : After-enter) → Some c.in_ok-next.next ≡ next_of (state_of c.args.self.now).next_version (state_of c.args.self.now).next_ticket c.args.uri c.args.label (Some (measured c.args.encoding c.args.text))
-next_is c =
-    (simp (to_z-of_z, c.ranges.label) at c.in_ok-next.ensures)
-    ∙ (λ i. next_of ((held c).version_is i) ((held c).ticket_is i) c.args.uri c.args.label (Some (measured c.args.encoding c.args.text)))
-
 went : (c : After-enter) → Entered c.args.self.now (Opened c.args.uri c.args.label c.args.text c.args.encoding c.self.inside.present.next_version) c.enter.new.self c.open-version.new.self c.self.inside.outbox.items c.self.inside.max_journal c.self.inside.max_events
 went c =
+    let e = c.in_ok-opening.ensures in
+    let parts = c.into_parts-state.ensures in
+    let next = c.into_parts-state.result.1 in
     let few = c.requires.room in
-    let room = c.in_ok-room_for_text.ensures.room in
-    entered c.self.inside.history _ _ _ _ _ c.in_ok-state.state (Opened c.args.uri c.args.label c.args.text c.args.encoding c.self.inside.present.next_version) _ c.room_for_text.new.journal _ _ _
-    c.self.invariant c.self.view_is c.in_ok-state.ensures
-    (opened _ _ _ c.args.uri c.args.label c.args.text c.args.encoding c.in_ok-next.next _ (held c) c.requires.possible.0 c.requires.possible.1
+    let room = room_for _ _ _ _ parts.state c.in_ok-room_for_text.ensures.room in
+    entered c.self.inside.history _ _ _ _ _ c.into_parts-state.result.0 (Opened c.args.uri c.args.label c.args.text c.args.encoding c.self.inside.present.next_version) _ c.room_for_text.new.journal _ _ _
+    c.self.invariant c.self.view_is (parts.state ∙ e.state)
+    (opened _ _ _ c.args.uri c.args.label c.args.text c.args.encoding next _ (held c) c.requires.possible.0 c.requires.possible.1
     c.requires.fits
-    (next_is c)
-    (c.open-version.ensures.documents ∙ ap (λ (ds : List Document). ds ++ documents_of (Some c.in_ok-next.next)) c.room_for_text.ensures.documents)
-    (c.open-version.ensures.waiting ∙ ap (λ (ws : List Waiting). ws ++ jobs_of (Some c.in_ok-next.next)) c.room_for_text.ensures.waiting)
+    (ap Some parts.next ∙ (simp (to_z-of_z, c.ranges.label) at e.next))
+    (c.open-version.ensures.documents ∙ ap (λ (ds : List Document). ds ++ documents_of (Some next)) c.room_for_text.ensures.documents)
+    (c.open-version.ensures.waiting ∙ ap (λ (ws : List Waiting). ws ++ jobs_of (Some next)) c.room_for_text.ensures.waiting)
     (c.open-version.ensures.version ∙ ap (λ n. n + 1) c.room_for_text.ensures.version)
     (c.open-version.ensures.ticket ∙ ap (λ n. n + 1) c.room_for_text.ensures.ticket))
     c.room_for_text.ensures.journal c.room_for_text.ensures.ended (simp (to_z-of_z, c.ranges.label) at c.enter.ensures)

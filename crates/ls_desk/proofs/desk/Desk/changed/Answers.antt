@@ -1,0 +1,16 @@
+use Rattle.std.proofs.Common.{◌∙◌, sym, ap}
+use Rattle.std.proofs.lemmas.Int.{to_z-of_z}
+use Rattle.std.specs.Prelude.{is_some}
+use Rattle.ls_machine.specs.Machine.{edited_at}
+use Rattle.ls_desk.specs.own.Puts.{next_of}
+use Rattle.ls_desk.proofs.Grows.{stands}
+use Rattle.ls_desk.proofs.desk.Desk.changed.Goals as goal
+
+pub returns-clause-open : goal.returns-clause-open
+returns-clause-open c = ap is_some c.in_ok-document.ensures.document
+
+pub returns-clause-next : goal.returns-clause-next
+returns-clause-next c =
+    let held = stands c.self.inside.history _ _ _ _ _ c.self.invariant c.self.view_is in
+    (simp (to_z-of_z, c.ranges.label) at c.in_ok-next.ensures)
+    ∙ (λ i. next_of (held.version_is i) (held.ticket_is i) c.args.uri.now c.args.label (edited_at (sym c.in_ok-document.ensures.document i) (c.as_slice.ensures i)))
