@@ -6,12 +6,16 @@ use Rattle.abnf_parts.specs.declared.node.Node.{Node}
 use Rattle.abnf_parts.specs.declared.node.Node.TheVariants.{Seq, Alt, Rep}
 use Rattle.abnf_parts.specs.Part.{Part, Parts, end, next, seq, alt, rep, series, subparts, all_subparts, numbers}
 use Rattle.abnf_parts.specs.Nodes.{IsNode}
-use Rattle.std.specs.Prelude.{Bool, true, false, if◌then◌else◌, Option, None, Result, Ok, Err, OnOk, ◌-◌}
+use Rattle.std.specs.Prelude.{Bool, true, false, if◌then◌else◌, Option, None, Result, Ok, Err, IfOk, OnOk, ◌-◌}
+use Rattle.std.specs.Borrow.{Bor}
+use Rattle.std.specs.Result.{IsErr}
+use Rattle.std.proofs.lemmas.Bool.{false≢true}
 use Rattle.abnf_syntax.specs.Grammar.{Alternation}
 use Rattle.abnf_token.specs.Classes.{base_of}
 use Rattle.abnf_parts.specs.Leaf.{quoted_part, number_part, numbers_from, span_of, has}
 use Rattle.abnf_parts.specs.Tree.{parts, join, alternation_part, tree_inside}
 use Rattle.abnf_parts.specs.Pushed.{AreNodesFrom, AddsNodes, AddsTrees}
+use Rattle.abnf_parts.specs.own.Begun.{Begins}
 
 at_number : (ps : List Part) (nodes : List Node) (m n : ℕ) → m ≡ n → AreNodesFrom m ps nodes → AreNodesFrom n ps nodes
 at_number ps nodes m n e h = subst (λ k. AreNodesFrom k ps nodes) e h
@@ -159,15 +163,27 @@ repeated_added p old opened new e h =
     (record { more = Alt (suc (length old) ∷ []) ∷ Rep 0 None (suc (suc (length old))) ∷ []; joined = e; are = (refl, (refl, tt)) }) h)
 
 -- a repetition stands before its body
-pub rep_added : (least : ℕ) (most : Option ℕ) (p : Part) (body : ℕ) (old opened new : List Node) → body ≡ length old + 1 → opened ≡ old ++ Rep least most body ∷ [] → AddsNodes (subparts p) opened new →
+pub rep_added : (least : ℕ) (most : Option ℕ) (p : Part) (old opened new : List Node) → opened ≡ old ++ Rep least most (suc (length old)) ∷ [] → AddsNodes (subparts p) opened new →
     AddsNodes (rep least most p ∷ subparts p) old new
-rep_added least most p body old opened new b o h =
-    adds_both (rep least most p ∷ []) (subparts p) old opened new
-    (adds_one (rep least most p) (Rep least most body) old opened o (ap (λ n. Rep least most n) (b ∙ (let e : length old + 1 ≡ suc (length old) = omega arith in e)))) h
+rep_added least most p old opened new o h =
+    adds_both (rep least most p ∷ []) (subparts p) old opened new (adds_one (rep least most p) (Rep least most (suc (length old))) old opened o refl) h
+
+pub rep_begun : (least : ℕ) (most : Option ℕ) (part : (Alternation → Part) → Part) (inside : Option (Bor Alternation)) (old opened mid : List Node) → opened ≡ old ++ Rep least most (suc (length old)) ∷ [] →
+    Begins part inside opened mid → Begins (λ tree. rep least most (part tree)) inside old mid
+rep_begun least most part inside old opened mid o h = λ tree new added. rep_added least most (part tree) old opened new o (h tree new added)
 
 pub on_ok : {A E : Type 0} (r : Result A E) (P Q : Type 0) → (P → Q) → OnOk r P → OnOk r Q
 on_ok (Ok x) P Q f h = f h
 on_ok (Err e) P Q f h = tt
+
+-- where an error is handed on, nothing is said of an `Ok`
+pub on_refused : {A E : Type 0} (r : Result A E) (P : Type 0) → IsErr r → OnOk r P
+on_refused (Ok x) P h = absurd (false≢true h)
+on_refused (Err e) P h = tt
+
+pub if_ok : {A E : Type 0} (r : Result A E) (P Q : A → Type 0) → ((x : A) → P x → Q x) → IfOk r P → IfOk r Q
+if_ok (Ok x) P Q f h = f x h
+if_ok (Err e) P Q f h = tt
 
 pub quoted_part_alone : (text : List ℕ) → subparts (quoted_part text) ≡ quoted_part text ∷ []
 quoted_part_alone text = refl

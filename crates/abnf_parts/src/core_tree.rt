@@ -10,43 +10,46 @@ ghost use Rattle.abnf_parts.specs.CoreTable as table;
 use crate::core_rule::{Core, Leaf};
 use crate::names::Names;
 use crate::node::{Node, NodeNo, RuleNo};
-use crate::tree::fill;
+use crate::tree::{add_next, fill, hold_place, push_node, push_rep};
 use abnf_token::Folded;
 use ls_lists::List;
 use std::alloc::{AllocError, Global};
 
-/// The rule that a name stands for inside the core rules, which have these names and begin with rule `first`.
-fn core_number<'t>(first: usize, names: &Names<'t>, name: Folded<'t>) -> Option<RuleNo>
-    requires { first < 2 ^ 63 }
-    ensures { result ≡ table.number_in first names.now (folded_text name.entry) }
+/// What the nodes of core rules are made with: memory, and the names of these rules, which are numbered from `first` on.
+#[derive(Clone, Copy)]
+struct Numbering<'n, 't> {
+    alloc: Global,
+    first: usize,
+    names: &'n Names<'t>,
+}
+
+/// The rule that a name stands for inside the core rules.
+fn core_number<'t>(numbering: &Numbering<'_, 't>, name: Folded<'t>) -> Option<RuleNo>
+    requires { numbering.now.first < 2 ^ 63 }
+    ensures { result ≡ table.number_in numbering.now.first numbering.now.names.now (folded_text name.entry) }
 {
-    match names.index_of(name) {
-        Some(rule) => Some(RuleNo::new(first + rule)),
+    match numbering.names.index_of(name) {
+        Some(rule) => Some(RuleNo::new(numbering.first + rule)),
         None => None,
     }
 }
 
 /// The node of a leaf.
-fn leaf_node<'t>(
-    alloc: Global,
-    first: usize,
-    names: &Names<'t>,
-    leaf: Leaf,
-) -> Result<Node<'t>, AllocError>
-    requires { first < 2 ^ 63 }
-    ensures { IfOk result (λ node. (n : ℕ) → IsNode n (table.leaf_part (table.number_in first names.now) leaf) node) }
+fn leaf_node<'t>(numbering: &Numbering<'_, 't>, leaf: Leaf) -> Result<Node<'t>, AllocError>
+    requires { numbering.now.first < 2 ^ 63 }
+    ensures { IfOk result (λ node. (n : ℕ) → IsNode n (table.leaf_part (table.number_in numbering.now.first numbering.now.names.now) leaf) node) }
 {
     match leaf {
         Leaf::Range(low, high) => Ok(Node::Span { low, high }),
         Leaf::One(character) => {
-            let mut characters = List::new(alloc);
+            let mut characters = List::new(numbering.alloc);
             characters.push(character)?;
             Ok(Node::Series(characters))
         }
         Leaf::Text(text) => Ok(Node::Quoted { text, exact: false }),
         Leaf::Rule(name) => {
             let name = Folded(name);
-            let rule = core_number(first, names, name);
+            let rule = core_number(numbering, name);
             Ok(Node::Ref { name, rule })
         }
     }
@@ -54,95 +57,82 @@ fn leaf_node<'t>(
 
 /// A leaf.
 fn push_leaf<'t>(
-    alloc: Global,
-    first: usize,
-    names: &Names<'t>,
+    numbering: &Numbering<'_, 't>,
     leaf: &Leaf,
     nodes: &mut Vec<Node<'t>>,
 ) -> Result<(), AllocError>
-    requires { first < 2 ^ 63 }
-    ensures { OnOk result (AddsNodes (subparts (table.leaf_part (table.number_in first names.now) leaf.now)) nodes.old.items nodes.new.items) }
+    requires { numbering.now.first < 2 ^ 63 }
+    ensures { OnOk result (AddsNodes (subparts (table.leaf_part (table.number_in numbering.now.first numbering.now.names.now) leaf.now)) nodes.old.items nodes.new.items) }
 {
-    let node = leaf_node(alloc, first, names, *leaf)?;
-    nodes.push(node)?;
-    Ok(())
+    let node = leaf_node(numbering, *leaf)?;
+    push_node(nodes, node)
 }
 
 /// Leaves side by side, whose numbers are added to `numbers`.
 fn push_leaves<'t>(
-    alloc: Global,
-    first: usize,
-    names: &Names<'t>,
+    numbering: &Numbering<'_, 't>,
     leaves: &[Leaf],
     nodes: &mut Vec<Node<'t>>,
     numbers: &mut List<NodeNo>,
 ) -> Result<(), AllocError>
-    requires { first < 2 ^ 63 }
-    ensures { OnOk result (AddsTrees (map (table.leaf_part (table.number_in first names.now)) leaves.now) nodes.old.items nodes.new.items numbers.old numbers.new) }
+    requires { numbering.now.first < 2 ^ 63 }
+    ensures { OnOk result (AddsTrees (map (table.leaf_part (table.number_in numbering.now.first numbering.now.names.now)) leaves.now) nodes.old.items nodes.new.items numbers.old numbers.new) }
 {
     for leaf in leaves {
-        numbers.push(NodeNo::new(nodes.len()))?;
-        push_leaf(alloc, first, names, leaf, nodes)?;
+        add_next(nodes, numbers)?;
+        push_leaf(numbering, leaf, nodes)?;
     }
     Ok(())
 }
 
 /// A row of leaves: its one leaf, or all of them in order.
 fn push_row<'t>(
-    alloc: Global,
-    first: usize,
-    names: &Names<'t>,
+    numbering: &Numbering<'_, 't>,
     row: &[Leaf],
     nodes: &mut Vec<Node<'t>>,
 ) -> Result<(), AllocError>
-    requires { first < 2 ^ 63 }
-    ensures { OnOk result (AddsNodes (subparts (table.row_part (table.number_in first names.now) row.entry)) nodes.old.items nodes.new.items) }
+    requires { numbering.now.first < 2 ^ 63 }
+    ensures { OnOk result (AddsNodes (subparts (table.row_part (table.number_in numbering.now.first numbering.now.names.now) row.entry)) nodes.old.items nodes.new.items) }
 {
     if row.len() == 1 {
-        return push_leaf(alloc, first, names, &row[0], nodes);
+        return push_leaf(numbering, &row[0], nodes);
     }
-    let at = nodes.len();
-    let mut numbers = List::new(alloc);
-    nodes.push(Node::Opaque)?;
-    push_leaves(alloc, first, names, row, nodes, &mut numbers)?;
+    let at = hold_place(nodes)?;
+    let mut numbers = List::new(numbering.alloc);
+    push_leaves(numbering, row, nodes, &mut numbers)?;
     fill(nodes, at, Node::Seq(numbers));
     Ok(())
 }
 
 /// Rows side by side, whose numbers are added to `numbers`.
 fn push_rows<'t>(
-    alloc: Global,
-    first: usize,
-    names: &Names<'t>,
+    numbering: &Numbering<'_, 't>,
     rows: &[&[Leaf]],
     nodes: &mut Vec<Node<'t>>,
     numbers: &mut List<NodeNo>,
 ) -> Result<(), AllocError>
-    requires { first < 2 ^ 63 }
-    ensures { OnOk result (AddsTrees (map (table.row_part (table.number_in first names.now)) rows.now) nodes.old.items nodes.new.items numbers.old numbers.new) }
+    requires { numbering.now.first < 2 ^ 63 }
+    ensures { OnOk result (AddsTrees (map (table.row_part (table.number_in numbering.now.first numbering.now.names.now)) rows.now) nodes.old.items nodes.new.items numbers.old numbers.new) }
 {
     for row in rows {
-        numbers.push(NodeNo::new(nodes.len()))?;
-        push_row(alloc, first, names, *row, nodes)?;
+        add_next(nodes, numbers)?;
+        push_row(numbering, *row, nodes)?;
     }
     Ok(())
 }
 
 /// A choice among rows.
 fn push_choice<'t>(
-    alloc: Global,
-    first: usize,
-    names: &Names<'t>,
+    numbering: &Numbering<'_, 't>,
     rows: &[&[Leaf]],
     nodes: &mut Vec<Node<'t>>,
 ) -> Result<(), AllocError>
-    requires { first < 2 ^ 63 }
-    ensures { OnOk result (AddsNodes (subparts (table.choice (table.number_in first names.now) rows.now)) nodes.old.items nodes.new.items) }
+    requires { numbering.now.first < 2 ^ 63 }
+    ensures { OnOk result (AddsNodes (subparts (table.choice (table.number_in numbering.now.first numbering.now.names.now) rows.now)) nodes.old.items nodes.new.items) }
 {
-    let at = nodes.len();
-    let mut numbers = List::new(alloc);
-    nodes.push(Node::Opaque)?;
-    push_rows(alloc, first, names, rows, nodes, &mut numbers)?;
+    let at = hold_place(nodes)?;
+    let mut numbers = List::new(numbering.alloc);
+    push_rows(numbering, rows, nodes, &mut numbers)?;
     fill(nodes, at, Node::Alt(numbers));
     Ok(())
 }
@@ -153,33 +143,25 @@ fn push_repeated<'t>(alloc: Global, nodes: &mut Vec<Node<'t>>) -> Result<(), All
 {
     let mut numbers = List::new(alloc);
     numbers.push(NodeNo::new(nodes.len() + 1))?;
-    nodes.push(Node::Alt(numbers))?;
-    let body = NodeNo::new(nodes.len() + 1);
-    nodes.push(Node::Rep {
-        least: 0,
-        most: None,
-        body,
-    })?;
-    Ok(())
+    push_node(nodes, Node::Alt(numbers))?;
+    push_rep(nodes, 0, None)
 }
 
 /// A core rule.
 fn push_core<'t>(
-    alloc: Global,
-    first: usize,
-    names: &Names<'t>,
+    numbering: &Numbering<'_, 't>,
     core: Core,
     nodes: &mut Vec<Node<'t>>,
 ) -> Result<(), AllocError>
-    requires { first < 2 ^ 63 }
-    ensures { OnOk result (AddsNodes (subparts ((table.core_of core).tree (table.number_in first names.now))) nodes.old.items nodes.new.items) }
+    requires { numbering.now.first < 2 ^ 63 }
+    ensures { OnOk result (AddsNodes (subparts ((table.core_of core).tree (table.number_in numbering.now.first numbering.now.names.now))) nodes.old.items nodes.new.items) }
 {
     match core {
         Core::Lwsp => {
-            push_repeated(alloc, nodes)?;
-            push_choice(alloc, first, names, core.rows(), nodes)
+            push_repeated(numbering.alloc, nodes)?;
+            push_choice(numbering, core.rows(), nodes)
         }
-        _ => push_choice(alloc, first, names, core.rows(), nodes),
+        _ => push_choice(numbering, core.rows(), nodes),
     }
 }
 
@@ -200,9 +182,14 @@ pub fn push_needed<'t>(
     requires { first < 2 ^ 63 }
     ensures { OnOk result (AddsTrees (map (λ core. (table.core_of core).tree (table.number_in first names.now)) needed.now) nodes.old.items nodes.new.items roots.old roots.new) }
 {
+    let numbering = Numbering {
+        alloc,
+        first,
+        names,
+    };
     for core in needed {
-        roots.push(NodeNo::new(nodes.len()))?;
-        push_core(alloc, first, names, *core, nodes)?;
+        add_next(nodes, roots)?;
+        push_core(&numbering, *core, nodes)?;
     }
     Ok(())
 }

@@ -1,10 +1,12 @@
 //! The nodes of a rule, pushed in the order of their numbers: each before its parts, parts from left to right.
-ghost use Rattle.std.specs.Prelude.{◌≡◌, ◌<◌, ℕ, map, length, List, ◌∷◌, [], OnOk, slice_set};
+ghost use Rattle.std.specs.Prelude.{◌≡◌, ◌<◌, ℕ, suc, map, length, List, ◌∷◌, ◌++◌, [], IfOk, OnOk, slice_set};
+ghost use Rattle.abnf_parts.specs.declared.node.Node.TheVariants.{Rep, Opaque};
 ghost use Rattle.abnf_syntax.specs.declared.tree.Element.{out-Element};
 ghost use Rattle.abnf_parts.specs.Names.{all_names, rule_number};
 ghost use Rattle.abnf_parts.specs.Part.{subparts};
 ghost use Rattle.abnf_parts.specs.Tree.{element_part, repetition_part, concatenation_part, tree_inside};
 ghost use Rattle.abnf_parts.specs.Pushed.{AddsNodes, AddsTrees};
+ghost use Rattle.abnf_parts.specs.own.Begun.{Begins};
 
 use crate::leaf::{number_node, quoted_node, repeat_bounds};
 use crate::names::RuleNames;
@@ -14,12 +16,106 @@ use abnf_token::Folded;
 use ls_lists::List;
 use std::alloc::{AllocError, Global};
 
+/// Pushes a node.
+pub(crate) fn push_node<'t>(nodes: &mut Vec<Node<'t>>, node: Node<'t>) -> Result<(), AllocError>
+    ensures { OnOk result (nodes.new.items ≡ nodes.old.items ++ node.entry ∷ []) }
+{
+    nodes.push(node)?;
+    Ok(())
+}
+
+/// Pushes a repetition of the part whose nodes come next.
+pub(crate) fn push_rep<'t>(
+    nodes: &mut Vec<Node<'t>>,
+    least: u32,
+    most: Option<u32>,
+) -> Result<(), AllocError>
+    ensures { OnOk result (nodes.new.items ≡ nodes.old.items ++ Rep least most (suc (length nodes.old.items)) ∷ []) }
+{
+    let body = NodeNo::new(nodes.len() + 1);
+    push_node(nodes, Node::Rep { least, most, body })
+}
+
+/// Adds the number of the node that is pushed next.
+pub(crate) fn add_next<'t>(
+    nodes: &Vec<Node<'t>>,
+    numbers: &mut List<NodeNo>,
+) -> Result<(), AllocError>
+    ensures { OnOk result (numbers.new ≡ numbers.old ++ length nodes.now.items ∷ []) }
+{
+    numbers.push(NodeNo::new(nodes.len()))
+}
+
+/// Pushes a node in place of the one that [`fill`] is to write, and gives its number.
+pub(crate) fn hold_place<'t>(nodes: &mut Vec<Node<'t>>) -> Result<usize, AllocError>
+    ensures number { IfOk result (λ at. at ≡ length nodes.old.items) }
+    ensures pushed { OnOk result (nodes.new.items ≡ nodes.old.items ++ Opaque ∷ []) }
+{
+    let at = nodes.len();
+    push_node(nodes, Node::Opaque)?;
+    Ok(at)
+}
+
 /// Writes the node with number `at`, for which one was pushed before those of its parts. Nothing else changes.
 pub fn fill<'t>(nodes: &mut Vec<Node<'t>>, at: usize, node: Node<'t>)
     requires { at < length nodes.old.items }
     ensures { nodes.new.items ≡ slice_set nodes.old.items at node.entry }
 {
     nodes[at] = node;
+}
+
+/// The nodes of an element before those of what stands in its brackets, which it gives; all nodes where it has none.
+fn begin_element<'e, 't>(
+    alloc: Global,
+    names: &RuleNames<'t>,
+    element: &'e Element<'t>,
+    nodes: &mut Vec<Node<'t>>,
+) -> Result<Option<&'e [List<Repetition<'t>>]>, AllocError>
+    ensures { IfOk result (λ inside. Begins (λ tree. element_part (rule_number (all_names names.now)) tree (out-Element element.now)) inside nodes.old.items nodes.new.items) }
+{
+    match element {
+        Element::Name(token) => {
+            let name = Folded(token.text);
+            let rule = names.rule_of(name);
+            push_node(nodes, Node::Ref { name, rule })?;
+            Ok(None)
+        }
+        Element::Quoted(token) => {
+            push_node(nodes, quoted_node(*token))?;
+            Ok(None)
+        }
+        Element::Number(token) => {
+            let node = number_node(alloc, *token)?;
+            push_node(nodes, node)?;
+            Ok(None)
+        }
+        Element::Prose(_) => {
+            push_node(nodes, Node::Opaque)?;
+            Ok(None)
+        }
+        Element::Group(inside) => Ok(Some(inside.as_slice())),
+        Element::Choice(inside) => {
+            push_rep(nodes, 0, Some(1))?;
+            Ok(Some(inside.as_slice()))
+        }
+    }
+}
+
+/// The same of an element with a repeat before it or none.
+fn begin_repetition<'r, 't>(
+    alloc: Global,
+    names: &RuleNames<'t>,
+    repetition: &'r Repetition<'t>,
+    nodes: &mut Vec<Node<'t>>,
+) -> Result<Option<&'r [List<Repetition<'t>>]>, AllocError>
+    ensures { IfOk result (λ inside. Begins (λ tree. repetition_part (rule_number (all_names names.now)) tree repetition.now) inside nodes.old.items nodes.new.items) }
+{
+    let Some(token) = repetition.repeat else {
+        return begin_element(alloc, names, &repetition.element, nodes);
+    };
+    let (least, most) = repeat_bounds(token);
+    push_rep(nodes, least, most)?;
+    begin_element(alloc, names, &repetition.element, nodes)
 }
 
 /// An alternation in brackets, which may hold brackets `room` - 1 deep.
@@ -34,15 +130,13 @@ fn push_inside<'t>(
     ensures { OnOk result (AddsNodes (subparts (tree_inside (rule_number (all_names names.now)) room alternation.now)) nodes.old.items nodes.new.items) }
 {
     if room == 0 {
-        nodes.push(Node::Opaque)?;
-        return Ok(());
+        return push_node(nodes, Node::Opaque);
     }
     if alternation.len() == 1 {
         return push_concatenation(alloc, names, room - 1, alternation[0].as_slice(), nodes);
     }
-    let at = nodes.len();
+    let at = hold_place(nodes)?;
     let mut numbers = List::new(alloc);
-    nodes.push(Node::Opaque)?;
     push_concatenations(alloc, names, room - 1, alternation, nodes, &mut numbers)?;
     fill(nodes, at, Node::Alt(numbers));
     Ok(())
@@ -67,7 +161,7 @@ pub fn push_concatenations<'t>(
 {
     numbers.reserve(alternation.len())?;
     for concatenation in alternation {
-        numbers.push(NodeNo::new(nodes.len()))?;
+        add_next(nodes, numbers)?;
         push_concatenation(alloc, names, room, concatenation.as_slice(), nodes)?;
     }
     Ok(())
@@ -87,9 +181,8 @@ fn push_concatenation<'t>(
     if concatenation.len() == 1 {
         return push_repetition(alloc, names, room, &concatenation[0], nodes);
     }
-    let at = nodes.len();
+    let at = hold_place(nodes)?;
     let mut numbers = List::new(alloc);
-    nodes.push(Node::Opaque)?;
     push_repetitions(alloc, names, room, concatenation, nodes, &mut numbers)?;
     fill(nodes, at, Node::Seq(numbers));
     Ok(())
@@ -109,7 +202,7 @@ fn push_repetitions<'t>(
 {
     numbers.reserve(concatenation.len())?;
     for repetition in concatenation {
-        numbers.push(NodeNo::new(nodes.len()))?;
+        add_next(nodes, numbers)?;
         push_repetition(alloc, names, room, repetition, nodes)?;
     }
     Ok(())
@@ -126,54 +219,8 @@ fn push_repetition<'t>(
 ) -> Result<(), AllocError>
     ensures { OnOk result (AddsNodes (subparts (repetition_part (rule_number (all_names names.now)) (tree_inside (rule_number (all_names names.now)) room) repetition.now)) nodes.old.items nodes.new.items) }
 {
-    let Some(token) = repetition.repeat else {
-        return push_element(alloc, names, room, &repetition.element, nodes);
-    };
-    let (least, most) = repeat_bounds(token);
-    let body = NodeNo::new(nodes.len() + 1);
-    nodes.push(Node::Rep { least, most, body })?;
-    push_element(alloc, names, room, &repetition.element, nodes)
-}
-
-#[cycle(tree)]
-fn push_element<'t>(
-    alloc: Global,
-    names: &RuleNames<'t>,
-    room: usize,
-    element: &Element<'t>,
-    nodes: &mut Vec<Node<'t>>,
-) -> Result<(), AllocError>
-    ensures { OnOk result (AddsNodes (subparts (element_part (rule_number (all_names names.now)) (tree_inside (rule_number (all_names names.now)) room) (out-Element element.now))) nodes.old.items nodes.new.items) }
-{
-    match element {
-        Element::Name(token) => {
-            let name = Folded(token.text);
-            let rule = names.rule_of(name);
-            nodes.push(Node::Ref { name, rule })?;
-            Ok(())
-        }
-        Element::Quoted(token) => {
-            nodes.push(quoted_node(*token))?;
-            Ok(())
-        }
-        Element::Number(token) => {
-            let node = number_node(alloc, *token)?;
-            nodes.push(node)?;
-            Ok(())
-        }
-        Element::Prose(_) => {
-            nodes.push(Node::Opaque)?;
-            Ok(())
-        }
-        Element::Group(inner) => push_inside(alloc, names, room, inner.as_slice(), nodes),
-        Element::Choice(inner) => {
-            let body = NodeNo::new(nodes.len() + 1);
-            nodes.push(Node::Rep {
-                least: 0,
-                most: Some(1),
-                body,
-            })?;
-            push_inside(alloc, names, room, inner.as_slice(), nodes)
-        }
+    match begin_repetition(alloc, names, repetition, nodes)? {
+        Some(inside) => push_inside(alloc, names, room, inside, nodes),
+        None => Ok(()),
     }
 }

@@ -26,6 +26,3 @@ decreases-push_repetitions l = 8 * l.room + 4
 
 abbrev pub decreases-push_repetition : goal.decreases-push_repetition
 decreases-push_repetition l = 8 * l.room + 3
-
-abbrev pub decreases-push_element : goal.decreases-push_element
-decreases-push_element l = 8 * l.room + 2
