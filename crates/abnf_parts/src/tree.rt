@@ -64,7 +64,8 @@ pub fn fill<'t>(nodes: &mut Vec<Node<'t>>, at: usize, node: Node<'t>)
     nodes[at] = node;
 }
 
-/// The nodes of an element before those of what stands in its brackets, which it gives; all nodes where it has none.
+/// Pushes the nodes of an element that come before those of what stands in its brackets, and gives what stands there; all its
+/// nodes where it has no brackets.
 fn begin_element<'e, 't>(
     alloc: Global,
     names: &RuleNames<'t>,
