@@ -16,7 +16,8 @@ and put back. What is published of each version must be what the plain readings 
 one worker, two and four (replayed_typing has how). Of a sample of the versions a new session must publish the same.
 
 At last there are rows by value: which names and endings make a draft, and of which initializationOptions; what is published of drafts, and
-what is answered in them. Without the options a text in Markdown has, byte for byte, what it has as a grammar. A fault is told with the draft.
+what is answered in them, in each of the encodings. Without the options a text in Markdown has, byte for byte, what it has as a grammar. A fault
+is told with the draft.
 """
 import argparse
 import collections
@@ -358,10 +359,10 @@ def outlines(program, options):
     return [[symbol["name"] for symbol in it["result"]] for it in bodies if it.get("id", 1) != 1]
 
 
-def valued(program, form, text, asked):
-    """What is published of a draft, and what is answered to these questions, where the client counts characters."""
+def valued(program, encoding, form, text, asked):
+    """What is published of a draft, and what is answered to these questions, where this encoding is agreed."""
     document = {"uri": draft_values.URI, "languageId": form, "version": 1, "text": text}
-    turns = [(initialize("utf-32", {"drafts": True}), 1), (replayed_typing.notice("didOpen", document), 1)]
+    turns = [(initialize(encoding, {"drafts": True}), 1), (replayed_typing.notice("didOpen", document), 1)]
     for number, (method, params, _) in enumerate(asked, 10):
         about = {"textDocument": {"uri": draft_values.URI}, **params}
         turns.append((replayed_typing.body_of(id=number, method=f"textDocument/{method}", params=about), 1))
@@ -371,9 +372,9 @@ def valued(program, form, text, asked):
 
 
 def value_cases(program):
-    for form, text, found, asked in draft_values.ROWS:
-        told, answers = valued(program, form, text, asked)
-        yield f"what is published of {text[:60]!r}", told, found
+    for encoding, (form, text, found, asked) in itertools.product(UNITS, draft_values.ROWS):
+        told, answers = valued(program, encoding, form, text, asked)
+        yield f"what is published of {text[:60]!r}, in {encoding}", told, found
         for (method, params, wanted), answer in itertools.zip_longest(asked, answers):
             yield f"{method} at {json.dumps(params)[:60]} in it", answer, wanted
 

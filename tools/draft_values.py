@@ -1,4 +1,5 @@
-"""Drafts by value: what is published of them, and what is answered in them. The values are by hand, in characters.
+"""Drafts by value: what is published of them, and what is answered in them. The values are by hand, the same in each encoding: of all that is
+asked about, nothing stands in a line with a character outside ASCII in front of it.
 
 Each row is what a draft is written in, its text, the findings, and questions: each its method, its parameters and its answer.
 """
@@ -34,6 +35,19 @@ def fault(line, start, message):
     return finding(line, start, start + 1, "xml", message)
 
 
+def unproductive(line, start, end, name):
+    return finding(line, start, end, "unproductive", f"rule {name} generates nothing", 2)
+
+
+def undefined(line, start, end, name):
+    return finding(line, start, end, "undefined", f"undefined rule {name}")
+
+
+def differs(line, first):
+    """A rule `a` at the start of a line, whose first definition stands in this one."""
+    return finding(line, 0, 1, "differs", f"rule a differs from its definition at line {first}")
+
+
 def first_of(count):
     return f" (the first of {count} faults in this block)"
 
@@ -49,13 +63,13 @@ def renamed(line, character, new, *spans):
     return "rename", {"position": point(line, character), "newName": new}, {"result": {"changes": {URI: edits}}}
 
 
-def action(line, character, *edits):
-    """A code action that is asked for there, and the text that it puts in at a place; or that there is none."""
+def action(line, character, *edits, end=None):
+    """A code action that is asked for there, or from there to an end, and the text that it puts in at a place; or that there is none."""
     actions = [
         {"edit": {"changes": {URI: [{"newText": text, "range": span(*place)}]}}, "kind": "refactor", "title": "Insert shortest example"}
         for text, place in edits
     ]
-    return "codeAction", {"range": span(line, character, character)}, {"result": actions}
+    return "codeAction", {"range": span(line, character, character if end is None else end)}, {"result": actions}
 
 
 def hover(line, character, value=None, start=0, end=0):
@@ -68,9 +82,16 @@ def definitions(line, character, *spans):
     return "definition", {"position": point(line, character)}, {"result": [{"range": span(*it), "uri": URI} for it in spans]}
 
 
-def tokens(*told):
+def references(line, character, *spans):
+    """The places of a name that is asked for there, those among them that define it."""
+    asked = {"position": point(line, character), "context": {"includeDeclaration": True}}
+    return "references", asked, {"result": [{"range": span(*it), "uri": URI} for it in spans]}
+
+
+def tokens(*told, line=0):
     """The tokens of one line: of each how far it begins behind the last, its length, its type and its modifiers."""
-    return "semanticTokens/full", {}, {"result": {"data": [number for it in told for number in (0, *it)]}}
+    numbers = [number for it in told for number in (0, *it)]
+    return "semanticTokens/full", {}, {"result": {"data": [line, *numbers[1:]]}}
 
 
 def outline(*symbols):
@@ -169,7 +190,7 @@ REFERENCE_ROWS = (
     (
         "xml",
         f'{BLOCK}&#97; = "x" / b&#99; / &lt;p&gt; d{END}',
-        [finding(0, 35, 41, "undefined", "undefined rule bc"), finding(0, 54, 55, "undefined", "undefined rule d")],
+        [undefined(0, 35, 41, "bc"), undefined(0, 54, 55, "d")],
         (
             *(hover(0, 21, "not known", 21, 26), hover(0, 36, "undefined", 35, 41), hover(0, 41, "undefined", 35, 41), hover(0, 38)),
             renamed(0, 21, "q", (0, 21, 26)),
@@ -226,4 +247,85 @@ ACTION_ROWS = (
         (action(1, 0, ("; example x\n", (1, 0, 0))), action(2, 0)),
     ),
 )
-ROWS = (*FAULT_ROWS, *FLOOD_ROWS, *COPY_ROWS, *REFERENCE_ROWS, *ACTION_ROWS)
+
+# Two blocks, the first in an item of a list, behind a character outside the first plane
+MARKDOWN = (
+    "# T\r\n\r\n1. item \U0001f600\r\n\r\n   ```abnf\r\n     greeting = hello SP name ; c\r\n     hello = \"hi\"\r\n     name = 1*ALPHA\r\n"
+    '   ```\r\n\r\nend\r\n\r\n~~~ abnf\r\n\tother = "x" hello\r\n~~~\r\n'
+)
+# A CDATA section, and an element with references and a comment
+XML = (
+    '<rfc><sourcecode type="abnf"><![CDATA[\n  a = b\n  b = "x"]]></sourcecode>\n'
+    "<artwork type='abnf'>c = a / &quot;&lt;&quot; / <!-- x -->b</artwork></rfc>"
+)
+# A start tag of 24 characters, and a fenced block
+CODE, CODE_END, FENCED = '<sourcecode type="abnf">', "</sourcecode>", "~~~ abnf\n{}\n~~~\n"
+NO_NAME = "rule name expected"
+HELLO, IN_B = ((5, 16, 21), (6, 5, 10), (13, 13, 18)), ((1, 6, 7), (2, 2, 3), (3, 58, 59))
+
+NAME_ROWS = (
+    (
+        "markdown",
+        MARKDOWN,
+        [],
+        (
+            *(definitions(5, 16, (6, 5, 10)), references(6, 10, *HELLO), references(6, 7, *HELLO)),
+            hover(13, 13, "shortest length 2\nexample hi", 13, 18),
+            # a margin is its line, and prose is outside
+            *(definitions(6, 2, (6, 5, 10)), definitions(13, 0, (13, 1, 6)), definitions(10, 1), hover(2, 3), definitions(4, 7)),
+            *(renamed(13, 15, "salute", *HELLO), refused(0, 0, "salute", NOTHING), refused(0, 0, "1", NOT_A_NAME)),
+            # a comment keeps the margin
+            action(5, 16, ("; example hi\r\n     ", (6, 5, 5))),
+            action(13, 2, ("; example xhi\r\n\t", (13, 1, 1)), end=3),
+        ),
+    ),
+    (
+        "xml",
+        XML,
+        [],
+        (
+            *(references(1, 6, *IN_B), references(3, 59, *IN_B), references(0, 7), renamed(1, 6, "bb", *IN_B)),
+            outline(("a", 1, 2, 7, 3), ("b", 2, 2, 9, 3), ("c", 3, 21, 59, 22)),
+            # (the example of `c` is `<`, which can't stand outside of a CDATA section)
+            *(action(2, 2, ("; example x\n  ", (2, 2, 2))), action(3, 21)),
+        ),
+    ),
+    (
+        "xml",
+        f"{CODE}<![CDATA[a = b\nb = a]]>{CODE_END}",
+        [unproductive(0, 33, 34, "a"), unproductive(1, 0, 1, "b")],
+        (definitions(1, 5, (0, 33, 34)),),
+    ),
+    # a range ends behind a reference
+    ("xml", f"{CODE}ab = a&#98;\n{CODE_END}", [unproductive(0, 24, 26, "ab")], (renamed(0, 24, "abc", (0, 24, 26), (0, 29, 35)),)),
+    # what would be written in the place of `a]]>b` would go on to be CDATA
+    ("xml", f"{CODE}<![CDATA[ab = a]]>b\n{CODE_END}", [unproductive(0, 33, 35, "ab")], (refused(0, 33, "abc", SPLIT),)),
+    # XML at fault keeps what stands in front
+    (
+        "xml",
+        f'{CODE}a = b\na = "x"\n&x;\nb = a{CODE_END}',
+        [differs(1, 1), fault(2, 0, "no reference to a character")],
+        (definitions(0, 24, (0, 24, 25), (1, 0, 1)), refused(0, 24, "c", AT_FAULT), refused(0, 28, "c", NOTHING)),
+    ),
+    ("xml", f"{CODE}a = a\n", [fault(0, 0, "block without an end tag")], ()),
+    # a definition that says the same, and one that doesn't
+    ("markdown", FENCED.format('a = "x"') + FENCED.format('A = "x" ; c'), [], ()),
+    ("markdown", FENCED.format('a = "x"') + FENCED.format('a = "y"'), [differs(4, 2)], ()),
+    # of eleven faults in a block the first is told, and of ten each
+    (
+        "markdown",
+        FENCED.format("=\n" * 11 + "a = b") + FENCED.format("="),
+        [finding(1, 0, 1, "syntax", NO_NAME + first_of(11)), finding(15, 0, 1, "syntax", NO_NAME)],
+        (),
+    ),
+    ("markdown", FENCED.format("\n".join(10 * "=")), [finding(line, 0, 1, "syntax", NO_NAME) for line in range(1, 11)], ()),
+    # findings and tokens stand in the draft
+    (
+        "markdown",
+        f"prose\n{FENCED.format('  a = b')}prose\n",
+        [unproductive(2, 2, 3, "a"), undefined(2, 6, 7, "b")],
+        (tokens((2, 1, 0, 1), (2, 1, 3, 0), (2, 1, 0, 0), line=2),),
+    ),
+    ("markdown", "a = b\n", [], ()),
+)
+ROWS = (*FAULT_ROWS, *FLOOD_ROWS, *COPY_ROWS, *REFERENCE_ROWS, *ACTION_ROWS, *NAME_ROWS)

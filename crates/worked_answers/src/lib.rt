@@ -8,8 +8,6 @@
 #![tactic(auto)]
 
 #[cfg(test)]
-mod drafts;
-#[cfg(test)]
 mod edits;
 #[cfg(test)]
 mod faults;
