@@ -4,7 +4,7 @@ They have the form of those of `session_rows`.
 """
 from session_rows import (
     CAPABILITIES, COMMENT, DEFINES, NAME, NOTHING, OPERATOR, PROSE, QUOTED, USE, WITH, WITHOUT, action, answered, at, changed, edit, edits,
-    inserted, length, named, opened, outline_after, places, published, ranged, refused, replied, shown_at, symbol, undefined,
+    inserted, keeps, length, named, opened, outline_after, places, published, ranged, refused, replied, shown_at, symbol, undefined,
     workspace_edit,
 )
 
@@ -57,6 +57,16 @@ def edited_in(encoding, text, changes, *symbols):
     return f"{encoding}: {name}", [offers(f'["{encoding}"]'), *said[1:]], [agreed(encoding), *wanted[1:]], versions
 
 
+def kept_in(encoding, character, *spans):
+    """A rename that is made of a name behind characters of two, three and four bytes, with one of four behind it in another line."""
+    text, after = (
+        f'a = <\u00e9\u20ac\U0001f600> {{0}}\n{{0}} = "x" ; \U0001f600\nc = <\U0001f600> {{1}}'.format(*it) for it in (("b", "B"), ("bee", "bee"))
+    )
+    told = (0, "not known"), (1, length(1, "x")), (2, "not known")
+    name, said, wanted, versions = keeps(text, 0, character, "bee", spans, after, *told, encoding=encoding)
+    return f"{encoding}: {name}", [offers(f'["{encoding}"]'), *said[1:]], [agreed(encoding), *wanted[1:]], versions
+
+
 # In the line `a="..." a` the second name stands behind a string with two characters outside the first plane.
 WIDE = 'a="\U0001f004\U0001f004" a'
 
@@ -76,6 +86,9 @@ ASKED = (
     replied_in("utf-8", "rename", WIDE, at(0, 14) + named('"b"'), answered(workspace_edit(edits("b", (0, 0, 1), (0, 13, 14))))),
     replied_in("utf-32", "rename", WIDE, at(0, 8) + named('"b"'), answered(workspace_edit(edits("b", (0, 0, 1), (0, 7, 8))))),
     replied_in("utf-32", "hover", WIDE, at(0, 7), shown_at("not known", (0, 7, 8))),
+    kept_in("utf-8", 16, (0, 16, 17), (1, 0, 1), (2, 11, 12)),
+    kept_in("utf-16", 11, (0, 11, 12), (1, 0, 1), (2, 9, 10)),
+    kept_in("utf-32", 10, (0, 10, 11), (1, 0, 1), (2, 8, 9)),
 )
 
 # The units of a text in each encoding

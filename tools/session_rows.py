@@ -3,6 +3,7 @@
 All bodies are written out as they stand in the stream. FRAMES has streams whose frames are broken, with the line that names the fault.
 """
 import json
+import re
 
 INITIALIZE = '{"jsonrpc":"2.0","id":1,"method":"initialize","params":{"capabilities":{}}}'
 INITIALIZED = '{"jsonrpc":"2.0","method":"initialized","params":{}}'
@@ -455,6 +456,37 @@ def kept(text, line, character, new, why):
     return replied("rename", text, at(line, character) + named(json.dumps(new)), refused(-32803, why))
 
 
+# How many bytes a unit of each encoding has, and how Python writes it
+CODECS = {"utf-8": (1, "utf-8"), "utf-16": (2, "utf-16-le"), "utf-32": (4, "utf-32-le")}
+
+
+def with_edits(text, new, spans, encoding):
+    """A text with a new name in these places, from the last to the first."""
+    size, codec = CODECS[encoding]
+    lines = [line.encode(codec) for line in text.split("\n")]
+    for line, start, end in reversed(spans):
+        lines[line] = lines[line][: size * start] + new.encode(codec) + lines[line][size * end :]
+    return "\n".join(line.decode(codec) for line in lines)
+
+
+def heads_told(text, told):
+    """A hover at the head in each of some lines, with what is shown there."""
+    for line, shown in told:
+        start, end = re.search("[A-Za-z0-9-]+", text.split("\n")[line]).span()
+        yield asked("hover", at(line, start)), shown_at(shown, (line, start, end))
+
+
+def keeps(text, line, character, new, spans, after, *told, encoding="utf-16"):
+    """A rename that is granted: each of these places gets the new name. The client makes the edits, from the last to the first, which gives
+    another text. At the heads in some lines the same is shown before and after it."""
+    assert with_edits(text, new, spans, encoding) == after, (text, new)
+    then, now = ([*heads_told(it, told)] for it in (text, after))
+    rename = asked("rename", at(line, character) + named(json.dumps(new))), answered(workspace_edit(edits(new, *spans)))
+    made = ",".join(edit((at_line, start), (at_line, end), new) for at_line, start, end in reversed(spans))
+    said = [INITIALIZE, opened(text), *(it for it, _ in then), rename[0], changed(f"[{made}]"), *(it for it, _ in now)]
+    return f"a rename to {new} that is made in {text!r}", said, [CAPABILITIES, *(it for _, it in (*then, rename, *now))], 2
+
+
 NOT_A_NAME, NOTHING, IN_USE = "not a rule name", "nothing to rename", "name in use"
 ITEM = at(0, 0) + named('"ITEM2"')
 ITEM_EDITS = edits("ITEM2", (0, 0, 4), (1, 9, 13))
@@ -503,11 +535,13 @@ RENAMES = (
     renamed('digit = "0"', 0, 0, "DIGIT", (0, 0, 5)),
     renamed(LIST, 1, 0, "a-2-", (1, 0, 4)),
     *(kept(LIST, 0, 0, new, NOT_A_NAME) for new in ("2x", "", "-a", "a b", "a_b", "a\u00e9", "<a>", "a\n")),
-    *(kept(LIST, 0, 0, new, IN_USE) for new in ("digit", "LIST", "Crlf", "list")),
-    *(kept(LIST, line, character, "a", NOTHING) for line, character in ((1, 16), (0, 5), (0, 8))),
-    # a core rule, and a name that nothing defines
+    *(kept(LIST, 0, 0, new, IN_USE) for new in ("digit", "LIST", "Crlf", "list", "WSP")),
+    *(kept(LIST, line, character, new, NOTHING) for new in ("a", "thing") for line, character in ((1, 16), (0, 5), (0, 8))),
+    kept("", 0, 0, "b", NOTHING),
+    # a core rule, a name that nothing defines, and what follows a bad token at once
     kept("a = DIGIT", 0, 4, "b", NOTHING),
     kept("a = nope", 0, 4, "b", NOTHING),
+    kept('a = %item\nitem = "i"', 0, 6, "x41", NOTHING),
     # what is tested first is told
     kept(LIST, 1, 16, "2x", NOT_A_NAME),
     kept(LIST, 1, 16, "LIST", NOTHING),
@@ -543,6 +577,80 @@ RENAMES = (
     ),
     *(replied("rename", "a = a", beside + named('"b"'), INVALID_PARAMS) for beside in NO_POSITIONS),
     *(replied("rename", "a = a", at(0, 0) + beside, INVALID_PARAMS) for beside in ("", named("null"), named("5"), named('["b"]'))),
+)
+
+
+IS_NOT_KNOWN, NO_STRING = "not known", "generates nothing"
+IS_X, IS_Y, IS_I = (length(1, it) for it in "xyi")
+EACH_IS_I = ((0, IS_I), (1, IS_I))
+ITEMS = ((0, 0, 4), (1, 9, 13))
+
+MADE = (
+    # names in any case; all places get the new name as it is given
+    *(keeps(LIST, 0, at, "ITEM2", ITEMS, 'ITEM2 = "i"\nlist = 1*ITEM2 ; item', *EACH_IS_I) for at in (0, 4)),
+    keeps(LIST, 0, 1, "ITEM", ITEMS, 'ITEM = "i"\nlist = 1*ITEM ; item', *EACH_IS_I),
+    keeps(LIST, 0, 0, "item", ITEMS, 'item = "i"\nlist = 1*item ; item', *EACH_IS_I),
+    # of heads
+    keeps("a = %x41 ; c", 0, 0, "letter", [(0, 0, 1)], "letter = %x41 ; c", (0, length(1, "A"))),
+    keeps('a = "x" / a a', 0, 0, "c", [(0, 0, 1), (0, 10, 11), (0, 12, 13)], 'c = "x" / c c', (0, IS_X)),
+    # blocks that add to a rule, without one that defines it too
+    keeps(
+        *('a = "xx"\na =/ "y"\nA =/ "zzz"', 2, 0, "b", [(0, 0, 1), (1, 0, 1), (2, 0, 1)], 'b = "xx"\nb =/ "y"\nb =/ "zzz"'),
+        *((line, IS_Y) for line in range(3)),
+    ),
+    keeps('a =/ "x" / 2a', 0, 0, "b", [(0, 0, 1), (0, 12, 13)], 'b =/ "x" / 2b', (0, IS_X)),
+    # a second definition doesn't count
+    keeps(
+        *('a = "x"\nA = "yy"\nb = a', 1, 0, "c", [(0, 0, 1), (1, 0, 1), (2, 4, 5)], 'c = "x"\nc = "yy"\nb = c'),
+        *((line, IS_X) for line in range(3)),
+    ),
+    # inside a core rule names stand for core rules alone, so the digit of HEXDIG isn't the text's own
+    keeps(DIGITS, 0, 0, "d0", [(0, 0, 5), (1, 5, 10)], 'd0 = "0"\nn = 2d0 HEXDIG', (0, length(1, "0")), (1, length(3, "00A"))),
+    keeps(
+        *('LF = "n"\na = LF CRLF', 1, 4, "new-line", [(0, 0, 2), (1, 4, 6)], 'new-line = "n"\na = new-line CRLF'),
+        *((0, length(1, "n")), (1, length(3, "n\\x{D}\\x{A}"))),
+    ),
+    # behind repeats and in brackets
+    keeps(
+        *('a = *b 2b 1*2b *3(b)\nb = "x"', 1, 0, "c-1", [(0, 5, 6), (0, 8, 9), (0, 13, 14), (0, 18, 19), (1, 0, 1)]),
+        *('a = *c-1 2c-1 1*2c-1 *3(c-1)\nc-1 = "x"', (0, length(3, "xxx")), (1, IS_X)),
+    ),
+    keeps(
+        *('a = (b/b [B])\nb = "x"', 0, 5, "long-name", [(0, 5, 6), (0, 7, 8), (0, 10, 11), (1, 0, 1)]),
+        *('a = (long-name/long-name [long-name])\nlong-name = "x"', (0, IS_X), (1, IS_X)),
+    ),
+    # what stands in strings, comments and prose is no name
+    keeps(
+        *('a = "b" b %s"b" ; b\nb = "y"', 0, 8, "c", [(0, 8, 9), (1, 0, 1)]),
+        *('a = "b" c %s"b" ; b\nc = "y"', (0, length(3, "byb")), (1, IS_Y)),
+    ),
+    # the name ends where the position stands
+    keeps('a=b\nb=""', 0, 3, "c", [(0, 2, 3), (1, 0, 1)], 'a=c\nc=""', (0, length(0, "")), (1, length(0, ""))),
+    # over lines
+    keeps(
+        *('a = b ; b\n  / c ; c\nb = "bb"\nc = "c"', 1, 4, "last", [(1, 4, 5), (3, 0, 1)]),
+        *('a = b ; b\n  / last ; c\nb = "bb"\nlast = "c"', (0, length(1, "c")), (2, length(2, "bb")), (3, length(1, "c"))),
+    ),
+    keeps('\ta\t=\t"x"\r\n\tb\t=\tA\r\n', 0, 1, "c", [(0, 1, 2), (1, 5, 6)], '\tc\t=\t"x"\r\n\tb\t=\tc\r\n', (0, IS_X), (1, IS_X)),
+    # characters outside the first plane are two units of UTF-16 each
+    keeps(
+        *('a = <\U0001f600> b \U0001f600 b\nb = "x" ; \U0001f600', 0, 9, "bee", [(0, 9, 10), (0, 14, 15), (1, 0, 1)]),
+        *('a = <\U0001f600> bee \U0001f600 bee\nbee = "x" ; \U0001f600', (0, IS_NOT_KNOWN), (1, IS_X)),
+    ),
+    # in faulty blocks
+    keeps(
+        *('a = "x"\nb = (a\nc = ? A\na b', 0, 0, "d", [(0, 0, 1), (1, 5, 6), (2, 6, 7), (3, 0, 1)]),
+        *('d = "x"\nb = (d\nc = ? d\nd b', (0, IS_X), (1, IS_NOT_KNOWN), (2, IS_NOT_KNOWN)),
+    ),
+    keeps("a = (b\nb = a", 1, 4, "c", [(0, 0, 1), (1, 4, 5)], "c = (b\nb = c", (0, IS_NOT_KNOWN), (1, IS_NOT_KNOWN)),
+    # a name that nothing defines has no rule, so what needs it generates nothing
+    keeps('a = nope b\nb = "x"', 1, 0, "c", [(0, 9, 10), (1, 0, 1)], 'a = nope c\nc = "x"', (0, NO_STRING), (1, IS_X)),
+    # what follows a bad token or a number at once is part of something misspelled, which a new name could mend: `%x41` is a number
+    keeps('a = %item\nitem = "i"', 1, 0, "x41", [(1, 0, 4)], 'a = %item\nx41 = "i"', (0, IS_NOT_KNOWN), (1, IS_I)),
+    keeps('a = %x41g g\ng = "x"', 1, 0, "b", [(0, 10, 11), (1, 0, 1)], 'a = %x41g b\nb = "x"', (0, IS_NOT_KNOWN), (1, IS_X)),
+    # a quotation mark that isn't closed, and prose that isn't
+    keeps('a = "item item\nitem = "i"', 1, 0, "thing", [(0, 10, 14), (1, 0, 4)], 'a = "item thing\nthing = "i"', (0, IS_NOT_KNOWN), (1, IS_I)),
+    keeps('a = <item item\nitem = "i"', 0, 10, "thing", [(0, 10, 14), (1, 0, 4)], 'a = <item thing\nthing = "i"', (0, IS_NOT_KNOWN), (1, IS_I)),
 )
 
 
@@ -714,7 +822,7 @@ NO_DOCUMENT = (
 
 SESSIONS = LIVES + FINDINGS
 # What these are answered with beside what is published; the last number counts the versions of the document
-REPLIES = EDITS + DEFINITIONS + HOVERS + REFERENCES + RENAMES + ACTIONS + TOKENS + NO_DOCUMENT
+REPLIES = EDITS + DEFINITIONS + HOVERS + REFERENCES + RENAMES + MADE + ACTIONS + TOKENS + NO_DOCUMENT
 
 # What stands in the stream behind a whole frame, and the line that names its fault
 FRAMES = (
