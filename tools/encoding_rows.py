@@ -3,9 +3,9 @@
 They have the form of those of `session_rows`.
 """
 from session_rows import (
-    CAPABILITIES, COMMENT, DEFINES, NAME, NOTHING, OPERATOR, PROSE, QUOTED, USE, WITH, WITHOUT, action, answered, at, changed, edit, edits,
-    inserted, keeps, length, named, opened, outline_after, places, published, ranged, refused, replied, shown_at, symbol, undefined,
-    workspace_edit,
+    CAPABILITIES, COMMENT, DEFINES, NAME, NOTHING, NUMBER, OPERATOR, PROSE, QUOTED, USE, WITH, WITHOUT, action, answered, asked, at, changed,
+    closed, edit, edits, inserted, keeps, length, named, opened, outline_after, places, published, ranged, refused, replied, shown_at, symbol,
+    syntax, undefined, workspace_edit,
 )
 
 
@@ -173,6 +173,72 @@ def wide_findings(encoding):
     return in_encoding(encoding, WIDE_LINE_ENDS, [found, found_then], changed(made))
 
 
-SESSIONS = AGREED + tuple(wide_findings(encoding) for encoding in UNITS)
+# Lines and their tokens but for blanks and bad ones (RFC 5234 section 4, RFC 7405 section 2.2): what each is, where it starts and ends, in
+# bytes, and its modifiers, if it has any
+LINES = (
+    ("",),
+    (
+        'a=/%s"x"2*b%x41-5A.<p>;c',
+        *((NAME, 0, 1, DEFINES), (OPERATOR, 1, 3), (QUOTED, 3, 8), (OPERATOR, 8, 10), (NAME, 10, 11), (NUMBER, 11, 18)),
+        *((PROSE, 19, 22), (COMMENT, 22, 24)),
+    ),
+    # signs
+    (" \t( )[]/=", *((OPERATOR, start, start + 1) for start in (2, 4, 5, 6, 7, 8))),
+    ('"x"=/y', (QUOTED, 0, 3), (OPERATOR, 3, 5), (NAME, 5, 6)),
+    ("1*2*3", (OPERATOR, 0, 3), (OPERATOR, 3, 5)),
+    # numbers
+    ("%x", (NAME, 1, 2)),
+    ("%d300b", (NUMBER, 0, 5), (NAME, 5, 6)),
+    ("%x41-", (NUMBER, 0, 4)),
+    ("%x41.42-43", (NUMBER, 0, 7), (OPERATOR, 8, 10)),
+    ("%b2", (NAME, 1, 3)),
+    ("%D13.10", (NUMBER, 0, 7)),
+    # signs that close
+    ("%s", (NAME, 1, 2)),
+    ('%I"x"""', (QUOTED, 0, 5), (QUOTED, 5, 7)),
+    ('"\t"',),
+    ("<p", (NAME, 1, 2)),
+    ("<<p><p<", (PROSE, 0, 4), (NAME, 5, 6)),
+    # characters of several bytes
+    ("<\u00e9>\u20ac\U0001f600a;\u00e9", (PROSE, 0, 4), (NAME, 11, 12), (COMMENT, 12, 15)),
+)
+# Texts and the place of the first fault in each, which is at a bad token: at its block's front, and behind a sign
+FIRST_BAD = ("%x", "%b2", "%s", "<p", '"\t"')
+BAD_BEHIND = (
+    *((text, 2, 3) for text in ("a=%x", "a=%b2", "a=%s", "a=<p", "a=<", 'a="\t"')),
+    *(("a=%x41-5A.<p>;c", 9, 10), ("a=%x41-", 6, 7), ("a=%x41.42-43", 9, 10), ('a=\t"', 3, 4), ("a=<<p><p<", 6, 7)),
+    *(("a=<\u00e9>\u20ac\U0001f600a;\u00e9", 6, 9), ("a=<\u00e9>\U0001f600a;\u00e9", 6, 10)),
+)
+
+
+def line_numbers(tokens):
+    """The numbers of the tokens of a text of one line."""
+    last = 0
+    for kind, start, end, *modifiers in tokens:
+        yield from (0, start - last, end - start, kind, *(modifiers or [USE]))
+        last = start
+
+
+def bytes_of_tokens():
+    """The tokens of each line, in one session."""
+    said, wanted = [offers('["utf-8"]')], [agreed("utf-8")]
+    for line, *tokens in LINES:
+        said += [opened(line), asked("semanticTokens/full", ""), closed()]
+        wanted += [answered(f'{{"data":[{",".join(map(str, line_numbers(tokens)))}]}}')]
+    return f"utf-8: the tokens of {len(LINES)} lines", said, wanted, len(LINES)
+
+
+def bytes_of_bad_tokens():
+    """What is found in texts with bad tokens, in one session."""
+    first = [(text, syntax(0, 1, "rule name expected")) for text in FIRST_BAD]
+    behind = [(text, syntax(start, end, "bad character")) for text, start, end in BAD_BEHIND]
+    said, wanted = [offers('["utf-8"]')], [agreed("utf-8")]
+    for text, found in first + behind:
+        said += [opened(text), closed()]
+        wanted += [published(found)]
+    return "utf-8: bad tokens", said, wanted, 1
+
+
+SESSIONS = AGREED + (bytes_of_bad_tokens(),) + tuple(wide_findings(encoding) for encoding in UNITS)
 # What these are answered with beside what is published; the last number counts the versions of the document
-REPLIES = ASKED + tuple(row for encoding in UNITS for rows in (wide_rows, inside_rows) for row in rows(encoding))
+REPLIES = ASKED + (bytes_of_tokens(),) + tuple(row for encoding in UNITS for rows in (wide_rows, inside_rows) for row in rows(encoding))
