@@ -16,6 +16,7 @@ import rows
 from install import grammars
 from random_texts import Reading
 from runs import HUNG, outcome
+from session_rows import ODD_AND_EVEN, TO_AND_FRO
 from sums import kit
 from workspace import TOP, version
 
@@ -155,6 +156,20 @@ ROWS = (
     # second definitions, in either case (RFC 5234 section 2.1), and additions without a first (section 3.3)
     ('A = "yy"\na = "z"\na =/ "x"', ("2:1: error: rule a is already defined [duplicate]",)),
     ('a =/ "x"\na = "y"\na =/ "z"', ("1:1: warning: no earlier definition of a [no-base]",)),
+    # a block that doesn't count is looked at like any other
+    (
+        'a = "x"\na = Nope 2*1"y"',
+        (
+            *("2:1: error: rule a is already defined [duplicate]", "2:5: error: undefined rule Nope [undefined]"),
+            "2:10: warning: repeat with minimum above maximum [empty-repeat]",
+        ),
+    ),
+    # heads of faulty blocks define their names, and of what leads to them not all is known
+    (
+        'a = ?\na = "x"\nb = (\nb =/ "y"',
+        ("1:5: error: bad character [syntax]", "2:1: error: rule a is already defined [duplicate]", "3:6: error: element expected [syntax]"),
+    ),
+    ("a = b\nb = c\nc = ?", ("3:5: error: bad character [syntax]",)),
     # repeats and ranges that are empty (RFC 5234 sections 3.6 and 3.4)
     ('a = 3*2"x" / "y"', ("1:5: warning: repeat with minimum above maximum [empty-repeat]",)),
     ('a = %x39-30 / "y"', ("1:5: warning: range with low above high [empty-range]",)),
@@ -167,6 +182,10 @@ ROWS = (
             "2:5: error: undefined rule gone [undefined]",
         ),
     ),
+    # at the first head of the rule, as it is spelled there; and rules that need each other to and fro
+    ('List = list\nLIST =/ list "x"', ("1:1: warning: rule List generates nothing [unproductive]",)),
+    (TO_AND_FRO, ("25:1: warning: rule z generates nothing [unproductive]",)),
+    (ODD_AND_EVEN, ()),
     (" a = OWS\n", ("1:2: warning: rule a generates nothing [unproductive]", "1:6: error: undefined rule OWS [undefined]")),
     (
         'a = b\n / nope\n\nd = 3*2"x"\n\n',
@@ -187,6 +206,14 @@ ROWS = (
     ),
     ("b =/ b", ("1:1: warning: no earlier definition of b [no-base]", "1:1: warning: rule b generates nothing [unproductive]")),
     ("a = b", ("1:1: warning: rule a generates nothing [unproductive]", "1:5: error: undefined rule b [undefined]")),
+    (
+        'a = b\nA = "x" / c\nb = a b\nd =/ d',
+        (
+            *("1:1: warning: rule a generates nothing [unproductive]", "2:1: error: rule A is already defined [duplicate]"),
+            *("2:11: error: undefined rule c [undefined]", "3:1: warning: rule b generates nothing [unproductive]"),
+            *("4:1: warning: no earlier definition of d [no-base]", "4:1: warning: rule d generates nothing [unproductive]"),
+        ),
+    ),
     # what columns count: characters, whatever bytes or UTF-16 units they have; a tab is one
     ('a = <\u00e9\u20ac\U0001f600> nope', ("1:11: error: undefined rule nope [undefined]",)),
     ("a = <\u00e9> nope nope", ("1:9: error: undefined rule nope [undefined]", "1:14: error: undefined rule nope [undefined]")),

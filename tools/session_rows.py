@@ -5,6 +5,8 @@ All bodies are written out as they stand in the stream. FRAMES has streams whose
 import json
 import re
 
+from workspace import TOP, text_of
+
 INITIALIZE = '{"jsonrpc":"2.0","id":1,"method":"initialize","params":{"capabilities":{}}}'
 INITIALIZED = '{"jsonrpc":"2.0","method":"initialized","params":{}}'
 # 480 bytes
@@ -191,6 +193,11 @@ def outline_after(text, changes, symbols):
     return f"{changes[:80]} of {text!r}", [INITIALIZE, opened(text), changed(changes), SYMBOLS], [CAPABILITIES, wanted], 2
 
 
+def whole(text):
+    """The change by which this text takes the place of the whole one."""
+    return f'[{{"text":{json.dumps(text, ensure_ascii=False)}}}]'
+
+
 def closed_by(changes):
     return f"a document that {changes[:80]} closes", [INITIALIZE, opened("a="), changed(changes), SYMBOLS], [CAPABILITIES, NOT_OPEN], 1
 
@@ -284,9 +291,35 @@ def undefined(line, start, end, name):
     return line, start, end, 1, "undefined", f"undefined rule {name}"
 
 
-def syntax(start, end, message):
-    return 0, start, end, 1, "syntax", message
+def duplicate(line, name):
+    return line, 0, len(name), 1, "duplicate", f"rule {name} is already defined"
 
+
+def no_base(line, name):
+    return line, 0, len(name), 2, "no-base", f"no earlier definition of {name}"
+
+
+def empty_repeat(line, start, end):
+    return line, start, end, 2, "empty-repeat", "repeat with minimum above maximum"
+
+
+def empty_range(line, start, end):
+    return line, start, end, 2, "empty-range", "range with low above high"
+
+
+def syntax(start, end, message, line=0):
+    return line, start, end, 1, "syntax", message
+
+
+def bad(line, start):
+    return syntax(start, start + 1, "bad character", line)
+
+
+# Each rule needs one at the other end of those that are left.
+TO_AND_FRO = "\n".join(
+    (*map(" = ".join, "ax bw cv du et fs gr hq ip jo kn lm".split()), 'm = "x"', *map(" = ".join, "nl ok pj qi rh sg tf ue vd wc xb zz".split()))
+)
+ODD_AND_EVEN = "\n".join([f"r{n} = r{n - 1}" for n in (*range(1, 20, 2), *range(18, 0, -2))] + ['r0 = "x"'])
 
 # What a client says of a version, and the one that it is told
 LABELS = (("-5", -5), ("9223372036854775807", 9223372036854775807), *((said, 0) for said in ("null", "7.5", '"7"', "9223372036854775808", "[]", "{}")))
@@ -297,12 +330,32 @@ FINDINGS = (
     found(
         'a = 3*2"x" / %x39-30',
         unproductive(0, "a"),
-        (0, 4, 7, 2, "empty-repeat", "repeat with minimum above maximum"),
-        (0, 13, 20, 2, "empty-range", "range with low above high"),
+        empty_repeat(0, 4, 7),
+        empty_range(0, 13, 20),
     ),
-    found('A = "yy"\na = "z"\na =/ "x"', (1, 0, 1, 1, "duplicate", "rule a is already defined")),
-    found('a =/ "x"', (0, 0, 1, 2, "no-base", "no earlier definition of a")),
+    found('A = "yy"\na = "z"\na =/ "x"', duplicate(1, "a")),
+    found('a =/ "x"', no_base(0, "a")),
     found("a = b", unproductive(0, "a"), undefined(0, 4, 5, "b")),
+    # core rules are there, in either case, and equal bounds and ends are not empty; what leads to prose may generate something
+    *(found(text) for text in ("", "; c\n\n", "a = B digit\nb = 2*2%x30-30", "a = b\nb = <text>", "a = b\nb = <c> / b")),
+    # that a rule generates nothing is told at its first head, as it is spelled there
+    found('List = list\nLIST =/ list "x"', unproductive(0, "List")),
+    # a block that doesn't count is looked at like any other
+    found('a = "x"\na = "x"\n', duplicate(1, "a")),
+    found('a = "x"\na = Nope 2*1"y"', duplicate(1, "a"), undefined(1, 4, 8, "Nope"), empty_repeat(1, 9, 12)),
+    found('a =/ "x"\na = "y"\na =/ "z"', no_base(0, "a")),
+    # of one place, in the order of the table
+    found("b =/ b", no_base(0, "b"), unproductive(0, "b")),
+    found(
+        'a = b\nA = "x" / c\nb = a b\nd =/ d',
+        *(unproductive(0, "a"), duplicate(1, "A"), undefined(1, 10, 11, "c"), unproductive(2, "b"), no_base(3, "d"), unproductive(3, "d")),
+    ),
+    # heads of faulty blocks define their names, and of what leads to them not all is known
+    found('a = ?\na = "x"\nb = (\nb =/ "y"', bad(0, 4), duplicate(1, "a"), syntax(5, 5, "element expected", 2)),
+    found("a = b\nb = c\nc = ?", bad(2, 4)),
+    # rules that need each other to and fro, so that each look at all of them in their order tells of one alone
+    found(TO_AND_FRO, unproductive(24, "z")),
+    found(ODD_AND_EVEN),
     found('= "x"', syntax(0, 1, "rule name expected")),
     found('a "x"', syntax(2, 5, '"=" or "=/" expected')),
     found("a =", syntax(3, 3, "element expected")),
@@ -312,7 +365,7 @@ FINDINGS = (
     found("a = ?", syntax(4, 5, "bad character")),
     found("a = %x100000000", (0, 4, 15, 1, "number-too-large", "number too large")),
     # of brackets nested 65 deep the innermost
-    found("a = " + "(" * 65 + '"x"' + ")" * 65, (0, 68, 69, 1, "too-deep", "brackets nested too deep")),
+    *(found("a = " + "(" * 65 + rest, (0, 68, 69, 1, "too-deep", "brackets nested too deep")) for rest in ("", '"x"' + ")" * 65)),
     found('a = <text> / "x"\nb = "y"'),
     # characters outside the first plane are two units of UTF-16 each
     found("a = <\U0001f600> / b", undefined(0, 11, 12, "b")),
@@ -334,6 +387,199 @@ FINDINGS = (
             published(syntax(4, 5, "bracket not closed"), label=2),
         ],
         1,
+    ),
+)
+
+
+def typed(what, text, *steps):
+    """What is published of a text in which nothing is found, and again after each step: in it some characters of a line are replaced."""
+    said = [changed(f"[{edit((line, start), (line, end), new)}]") for (line, start, end), new, *_ in steps]
+    answers = [published(*findings, label=2) for _, _, *findings in steps]
+    return f"findings while it is typed {what}", [INITIALIZE, opened(text), *said], [CAPABILITIES, CLEAN, *answers], 1
+
+
+# Three rules, each of which uses the next, and a comment
+RULES = 'a = b\nb = ("x" / c)\nc = 2"y" ; two\n'
+NOT_CLOSED = syntax(4, 5, "bracket not closed", 1)
+# What has only an undefined name generates nothing, and neither does what uses that.
+ALONE = (unproductive(0, "a"), unproductive(1, "b"), undefined(1, 5, 6, "c"))
+
+
+def planted(rfc, *mistake):
+    """A mistake that is made in a grammar of examples/, in which nothing is found: none of these standards has a name without a rule, a second
+    definition of a name, an empty repeat or range, or a rule that generates nothing. (The empty path of RFC 3986 is prose, `0<pchar>`.)"""
+    return typed(f"in RFC {rfc}", text_of(f"{TOP}/examples/rfc{rfc}.abnf"), mistake)
+
+
+TYPED = (
+    # without its semicolon a comment is read
+    typed(
+        "in a comment",
+        RULES,
+        ((2, 14, 14), " (%"),
+        ((2, 10, 17), "nope"),
+        ((2, 9, 10), "", unproductive(2, "c"), undefined(2, 9, 13, "nope")),
+        ((2, 9, 9), ";"),
+    ),
+    typed("at a bracket", RULES, ((1, 12, 13), "", NOT_CLOSED), ((1, 12, 12), "]", NOT_CLOSED), ((1, 12, 13), ")")),
+    # a line that is indented belongs to the block before it: there `=` follows an element; then it is an alternative
+    typed(
+        "between blocks",
+        RULES,
+        ((2, 0, 0), " ", syntax(3, 4, "element expected", 2)),
+        ((2, 1, 4), "/", undefined(1, 11, 12, "c")),
+        ((2, 0, 2), "C =/", no_base(2, "C")),
+        ((2, 2, 4), "="),
+    ),
+    typed(
+        "in names",
+        RULES,
+        ((2, 0, 1), "d", undefined(1, 11, 12, "c")),
+        ((1, 5, 11), "", *ALONE),
+        ((2, 0, 1), "B", *ALONE, duplicate(2, "B")),
+        ((2, 0, 1), "C"),
+    ),
+    # date-time = full-date "T" fulltime
+    planted(3339, (19, 36, 37), "", unproductive(19, "date-time"), undefined(19, 32, 40, "fulltime")),
+    # h16 = 4*1HEXDIG; an address can do without
+    planted(3986, (41, 16, 19), "4*1", unproductive(41, "h16"), empty_repeat(41, 16, 19)),
+    # rulelist = 1*( rule / (*c-wsp c-nl)
+    planted(5234, (2, 43, 44), "", syntax(20, 21, "bracket not closed", 2)),
+    # digit1-9 = %x39-31; a number may be zero
+    planted(8259, (41, 11, 18), "%x39-31", unproductive(41, "digit1-9"), empty_range(41, 11, 18)),
+)
+
+# What stands behind both of two texts, so that most of their lines are the same and what is kept of one is used for the other
+TAIL, LONG_TAIL = "\n" + 40 * "; c\n", "\n" + 6000 * ";\n"
+
+
+def replaced(what, *pairs, tails=("", TAIL)):
+    """What is published of texts, each with its findings, and of those that take their places, in each pair. All is let go when a document is
+    closed."""
+    said, answers = [INITIALIZE], [CAPABILITIES]
+    for tail in tails:
+        for (before, *found_before), (text, *found) in pairs:
+            said += [opened(before + tail), changed(whole(text + tail)), closed()]
+            answers += [published(*found_before), published(*found, label=2)]
+    return f"findings of texts in the place of others: {what}", said, answers, 1
+
+
+def in_turn(*texts):
+    """Each text with its findings, and the one that takes its place."""
+    return zip(texts, texts[1:])
+
+
+B_ALONE = unproductive(1, "b")
+LINES = ('a = "x" "y"\nb = c ?\n', bad(1, 6))
+A_BLOCK = ('; c\n\na = "x"\n "y"\n "z"\nb = c ?\n', bad(5, 6))
+WITH_COMMENT = ('; c\n\na = "x"\n "y" ; c\n "z"\nb = c ?\n', bad(5, 6))
+LONGER = ('; c\n\na = "x"\n "y"\n; c\n "z"\nb = c ?\n', bad(6, 6))
+PARTED = ('; c\n\na = "x"\nd = "y"\n "z"\nb = c ?\n', bad(5, 6))
+LAST_ALONE = ('a = "x"\nb = "y"\nc = d', unproductive(2, "c"), undefined(2, 4, 5, "d"))
+BLANK = ("\n\n; c\n\na = b\n", unproductive(4, "a"), undefined(4, 4, 5, "b"))
+# The first line with content stands deep behind others.
+DEEP = 200 * "; c\n"
+DEEP_RULES = f"{DEEP}  a = %x20\n  b = a\n"
+
+
+def numbered(letter, count):
+    """So many rules with names of their own, all of which lead to the first of them, which needs itself."""
+    rules = "".join(f"{letter}{n} = {letter}{n // 2}\n" for n in range(count))
+    return f"start = %x20\n{rules}", *(unproductive(1 + n, f"{letter}{n}") for n in range(count))
+
+
+def alternatives(count, before=""):
+    """A rule of so many names that no rule has, behind some lines."""
+    lines, head = "".join(f"  / n{n}\n" for n in range(count)), 1 + before.count("\n")
+    return f"{before}start = %x20\n{lines}", *(undefined(head + n, 4, 5 + len(str(n)), f"n{n}") for n in range(count))
+
+
+REPLACED = (
+    replaced(
+        "comments and quotes",
+        *in_turn(('a = "x"\nb = b', B_ALONE), ('a = "x" ; y\nb = b', B_ALONE), ('a = "y"\nb = b', B_ALONE)),
+        (("a = <x>\nb = b", B_ALONE), ("a = <no x>\nb = b", B_ALONE)),
+        (("a = c c\nb = b\nc = %x20", B_ALONE), ("a = c  C\nb = b\nc = %x20", B_ALONE)),
+    ),
+    replaced(
+        "lines",
+        (LINES, LINES),
+        (LINES, ('\na = "x" "y"\nb = c ?\n', bad(2, 6))),
+        (LINES, ('a = "x"\n "y"\nb = c ?\n', bad(2, 6))),
+        (LINES, ('a = "x" "y"\n; c\nb = c ?\n', bad(2, 6))),
+        (LINES, ('a = "x" "y"\r\nb = c ?\r\n', bad(1, 6))),
+        (("; c\n\na = b\n", unproductive(2, "a"), undefined(2, 4, 5, "b")), ("a = b\n", unproductive(0, "a"), undefined(0, 4, 5, "b"))),
+    ),
+    replaced(
+        "a block of lines",
+        *in_turn(A_BLOCK, WITH_COMMENT, A_BLOCK, ('; c\n\na = "x" ; c\n "y"\n "z"\nb = c ?\n', bad(5, 6))),
+        # lines come and go inside the block, and before it
+        *in_turn(A_BLOCK, LONGER, A_BLOCK, ('; c\n\n\na = "x"\n "y"\n "z"\nb = c ?\n', bad(6, 6))),
+        (A_BLOCK, ('\na = "x"\n\n "y"\n "z"\nb = c ?\n', bad(5, 6))),
+        # a line inside the block begins another one, and goes on with it again
+        *in_turn(A_BLOCK, PARTED, A_BLOCK),
+        # a name in a line of the block is another one
+        (A_BLOCK, ('; c\n\na = "x"\n d\n "z"\nb = c ?\n', unproductive(2, "a"), undefined(3, 1, 2, "d"), bad(5, 6))),
+    ),
+    replaced(
+        "other items",
+        (('a = b\nb = "x"',), ('a = c\nb = "x"', unproductive(0, "a"), undefined(0, 4, 5, "c"))),
+        (('a = "x"\nb = c a\nc = b', B_ALONE, unproductive(2, "c")), ('a = "x"\nc = b / a', undefined(1, 4, 5, "b"))),
+        (('a = "x" "y"',), ('a = "x""y"', syntax(7, 10, "blank expected"))),
+        (('a = "x"\nb = "y"',), ('a = "x"\nb =/ "y"', no_base(1, "b"))),
+        # a line that continued a rule begins a block
+        (('a = "x"\n "y"',), ('a = "x"\n"y"', syntax(0, 3, "rule name expected", 1))),
+        # rules come and go in the middle, and what stands behind them is told by its new lines
+        (LAST_ALONE, ('a = "x"\ne = a\nf = a\nc = d', unproductive(3, "c"), undefined(3, 4, 5, "d"))),
+        (LAST_ALONE, ("c = d", unproductive(0, "c"), undefined(0, 4, 5, "d"))),
+    ),
+    replaced(
+        "blocks with findings",
+        *in_turn(*((text, unproductive(0, "a"), undefined(0, 4, 5, "b")) for text in ("a = b", "a = b ; c"))),
+        *in_turn(('a = ?\nb = "x"', bad(0, 4)), ('a = ?\n\nb = "x"', bad(0, 4))),
+    ),
+    replaced(
+        "another indent",
+        ((' a = "x"\n b = "y"',), ('a = "x"\n "y"',)),
+        (('a = b\nb = "x"',), ('  a = b\n  b = "x"',)),
+        (('a = "x"',), ("",)),
+    ),
+    replaced(
+        "many new names",
+        *in_turn(numbered("a", 20), numbered("b", 1500), numbered("a", 20)),
+        (numbered("b", 1500), numbered("c", 1500)),
+        tails=("", LONG_TAIL),
+    ),
+    replaced(
+        "a long block",
+        *in_turn(("start = %x20\n",), alternatives(1500), alternatives(1501)),
+        (alternatives(1500), alternatives(1500, "; c\n")),
+        tails=("",),
+    ),
+    replaced(
+        "both ends at once",
+        (
+            ("a = b\nb = c ; d\nc = d\nd = %x20\n",),
+            ("a = b b\nb = c ; d\nc = d\nd = e\n", *(unproductive(line, name) for line, name in enumerate("abcd")), undefined(3, 4, 5, "e")),
+        ),
+        # blocks come and go between them, and stand in another order
+        (("a = b\nb = %x20\nc = %x21\nd = %x22\ne = a",), ("a = c\nd = %x22\nx = a\nb = %x20 ; y\n c\nc = %x21\ne = x",)),
+        # a block with a fault stands between them
+        (("a = %x20\nb = ?\nc = a", bad(1, 4)), ("a = %x21\nb = ?\nc = b", bad(1, 4))),
+    ),
+    replaced(
+        "lines above all rules",
+        (BLANK, ("\n ; d\n; c\n\na = b\n", *BLANK[1:])),
+        *((BLANK, (text,)) for text in ("\n\n; c\nb = %x20\na = b\n", "\n\n; c\n\n")),
+        *((("\n\n\n",), it) for it in (("\n; c\n\n",), BLANK)),
+    ),
+    # in the last of them all is one block: there `=` follows an element
+    replaced(
+        "the first line with content deep behind others",
+        *(((DEEP_RULES,), (text,)) for text in (f"{DEEP}  a = %x20 ; c\n  b = a a\n", f"\n{DEEP_RULES}", DEEP)),
+        ((DEEP,), (DEEP_RULES,)),
+        ((DEEP_RULES,), (f" c = a\n{DEEP_RULES}", syntax(4, 5, "element expected", 201))),
+        tails=("",),
     ),
 )
 
@@ -820,7 +1066,7 @@ NO_DOCUMENT = (
     *about_no_document("semanticTokens/full", ""),
 )
 
-SESSIONS = LIVES + FINDINGS
+SESSIONS = LIVES + FINDINGS + TYPED + REPLACED
 # What these are answered with beside what is published; the last number counts the versions of the document
 REPLIES = EDITS + DEFINITIONS + HOVERS + REFERENCES + RENAMES + MADE + ACTIONS + TOKENS + NO_DOCUMENT
 
