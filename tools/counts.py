@@ -52,7 +52,6 @@ NUMBERS = (
 LOOPS = {
     "worked_sessions.random.SESSIONS": ("crates/worked_sessions/src/random/replies.rt", r"(?m)^const SESSIONS: u64 = ([0-9_]+);"),
     "worked_sessions.random.MESSAGES": ("crates/worked_sessions/src/random/replies.rt", r"(?m)^const MESSAGES: usize = ([0-9_]+);"),
-    "worked_grammars.seams": ("crates/worked_grammars/src/lines/seams.rt", r"(?m)^    for round in 0\.\.([0-9_]+)u32 \{"),
     "worked_grammars.random": ("crates/worked_grammars/src/random.rt", r"(?m)^    for _ in 0\.\.([0-9_]+) \{"),
 }
 # The tools of rows that try the gate's own tools
