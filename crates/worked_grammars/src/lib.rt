@@ -1,4 +1,5 @@
-//! Worked grammars: the tests of `abnf_names`, `abnf_places`, `abnf_cert` and `abnf_least`, and of `ls_text` and `abnf_syntax`, that no program's output shows.
+//! Worked grammars: what no program's output shows of `ls_text`, `abnf_syntax`, `abnf_names` and `abnf_places`, and random
+//! grammars for `abnf_cert` and `abnf_least`.
 //!
 //! They stand above the crates that they test, since a crate with tests is proved twice, and those take long.
 #![tactic(auto)]
