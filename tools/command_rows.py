@@ -9,6 +9,7 @@ may stand there. Each check is a text, a certificate, and the status with what s
 import sys
 
 import rows
+from published_texts import grammar_at
 from runs import outcome
 
 
@@ -47,6 +48,61 @@ IS_HUGE = "shortest length 18446744073709551615 or more"
 MANY = 100_000
 APART = "\n".join(f'r{n} = "x"' for n in range(MANY))
 CHAIN = "\n".join([f"r{n} = r{n - 1}" for n in range(MANY - 1, 0, -1)] + ['r0 = "x"'])
+NOWHERE = "\n".join(f"r{n} = r{n + 1}" for n in range(MANY))
+# Core rules have their nodes behind those of the text's rules, and what they use stands for core rules.
+OWN_LF = 'LF = "n"\na = CRLF HEXDIG'
+OF_LF_AND_A = ("0 1 0 0", "1 1 0 0", "2 3 2 0", "3 3 2 0", "4 2 2 0", "5 1 1 0")
+OF_CR_AND_CRLF = ("6 1 0 0", "7 1 0 0", "8 2 1 0", "9 2 1 0", "10 1 1 0", "11 1 1 0")
+OF_DIGIT_AND_HEXDIG = ("12 1 0 0", "13 1 0 0", "14 1 0 1", "15 1 1 0", *(f"{n} 1 0 0" for n in range(16, 22)))
+OWN_LF_CERT = lines(*OF_LF_AND_A, *OF_CR_AND_CRLF, *OF_DIGIT_AND_HEXDIG, "22 1 0 0", "23 1 0 0")
+# Blocks of one name are joined, a second `=` doesn't count, and a faulty one is opaque.
+JOINED, JOINED_CERT = 'A = "yy"\na = "z"\na =/ %s"x"\nb = ?', lines("0 1 0 1", "1 2 0 0", "2 1 0 0", "3 -", "4 -")
+REPEATS = 'a = 2*3%x41-5a [%d13.10] *<p> 4(("q")) %b1'
+REPEATS_CERT = lines("0 7 0 0", "1 7 0 0", "2 2 0 0", "3 1 0 0", "4 0 0 0", "5 2 0 0", "6 0 0 0", "7 -", "8 4 0 0", "9 1 0 0", "10 1 0 0")
+
+# Grammars, and of each some of its rules with what is shown of them
+ALL_EXAMPLES = (
+    (OWN_LF, (("lf", shown(1, "n")), ("A", shown(3, r"\x{D}\x{A}A")), ("cr", shown(1, r"\x{D}")), ("crlf", shown(2, r"\x{D}\x{A}")))),
+    (OWN_LF, (("Digit", shown(1, "0")), ("HEXDIG", shown(1, "A")), ("ALPHA", "undefined"), ("n", "undefined"))),
+    # prose is reached by uses, of core rules too
+    (
+        'a = b\nb = c\nc = <prose>\nd = "x"\ne = d\nf = nope / ALPHA / LWSP',
+        (
+            *((name, NOT_KNOWN) for name in "abc"),
+            *(("d", shown(1, "x")), ("e", shown(1, "x")), ("f", shown(0, "")), ("nope", "undefined")),
+            *(("ALPHA", shown(1, "A")), ("LWSP", shown(0, "")), ("WSP", shown(1, " "))),
+        ),
+    ),
+    # and against uses alone
+    ("a = b\nb = a\nc = b / <p>", (("a", NOTHING), ("b", NOTHING), ("c", NOT_KNOWN))),
+    # a faulty block is as prose
+    ('a = b\nb = (\nc = "x" 2("y" [b])\nd = c\ne = "x"', (*((name, NOT_KNOWN) for name in "abcd"), ("e", shown(1, "x")))),
+    # ten characters of a date, T, eight of a time, and Z, which is shorter than an offset in numbers; a digit is its low end, 0 (RFC 3339
+    # section 5.6)
+    (grammar_at("examples", "rfc3339.abnf"), (("date-time", shown(20, "0000-00-00T00:00:00Z")), ("time-numoffset", shown(6, "+00:00")))),
+    # RFC 3986 appendix A
+    (
+        grammar_at("examples", "rfc3986.abnf"),
+        (
+            # the empty path is `0<pchar>`, which is prose: of what leads there not all is known
+            ("URI", NOT_KNOWN),
+            # a host may be an empty name, and what stands around it may be left out
+            ("authority", shown(0, "")),
+            # "::" alone is an address
+            ("IP-literal", shown(4, "[::]")),
+            # of the digits "A" takes no reference, and of the marks ":"
+            ("IPvFuture", shown(4, "vA.:")),
+        ),
+    ),
+    # a line end is a list of rules, and the shortest rule is a name that stands for a name; numbers in base 2, 10 and 16 are equally short, and the
+    # first is taken (RFC 5234 section 4)
+    (
+        grammar_at("examples", "rfc5234.abnf"),
+        (("rulelist", shown(2, r"\x{D}\x{A}")), ("rule", shown(5, r"A=A\x{D}\x{A}")), ("num-val", shown(3, "%b0"))),
+    ),
+    # a number of one digit; a string, an array and an object have two characters, the words four and more (RFC 8259 sections 2 to 7)
+    (grammar_at("examples", "rfc8259.abnf"), (("JSON-text", shown(1, "0")), ("object", shown(2, "{}")), ("exp", shown(2, "e0")))),
+)
 
 EXAMPLES = (
     ('a = "x"', "a", shown(1, "x"), X),
@@ -94,7 +150,15 @@ EXAMPLES = (
     (HUGE, "e", not_shown(18446744073709551614), None),
     (HUGE, "f", shown(1, "z"), None),
     (HUGE, "h", shown(0, ""), None),
-    ('a = 4294967295""', "a", shown(0, ""), None),
+    ('a = 4294967295""', "a", shown(0, ""), lines("0 0 0 0", "1 0 0 0", "2 0 0 0")),
+    (OWN_LF, "a", shown(3, r"\x{D}\x{A}A"), OWN_LF_CERT),
+    (JOINED, "a", shown(1, "x"), JOINED_CERT),
+    (JOINED, "b", NOT_KNOWN, JOINED_CERT),
+    (REPEATS, "a", NOT_KNOWN, REPEATS_CERT),
+    # 100,000 rules, each of which uses the next, and the last one that there isn't
+    (NOWHERE, "r0", NOTHING, lines(*(f"{n} -" for n in range(2 * MANY)))),
+    (NOWHERE, f"r{MANY}", "undefined", None),
+    *((text, rule, wanted, None) for text, all_wanted in ALL_EXAMPLES for rule, wanted in all_wanted),
 )
 
 YES = (0, b"", b"yes\n")
@@ -116,6 +180,13 @@ CHECKS = (
     (TWO, lines("0 18446744073709551616 0 1", *TWO_LINES[1:]), fault("3 NumberTooLarge")),
     ("a = a", lines("0 0 18446744073709551615 0", "1 0 18446744073709551615 0"), NO),
     ("a = a", lines("0 -", "1 -"), YES),
+    ("", "", YES),
+    ('a = a / ""', lines("0 0 0 1", "1 0 1 0", "2 0 0 0"), YES),
+    ('a = a / ""', lines("0 0 1 0", "1 0 1 0", "2 0 0 0"), NO),
+    # a line without its end, and ends of another kind; what is wrong first is told
+    ("a = a", "0 -\n1 -", fault("1 BadLine")),
+    ("a = a", "0 -\r\n1 -\r\n", fault("1 BadLine")),
+    ("a = a", lines("0 -", "5 18446744073709551616 0 1"), fault("2 OutOfOrder")),
 )
 
 

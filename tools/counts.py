@@ -37,7 +37,7 @@ HEAD = f"# What the gate must find, neither more nor less. `{RAISE}` puts higher
 
 # Lists of worked rows, and numbers of cases that are made in a loop
 LISTS = (
-    *(f"{module}.{name}" for module in ("session_rows", "encoding_rows") for name in ("SESSIONS", "REPLIES")),
+    *(f"{module}.{name}" for module in ("session_rows", "encoding_rows", "text_rows") for name in ("SESSIONS", "REPLIES")),
     *("session_rows.FRAMES", "command_rows.EXAMPLES", "command_rows.CHECKS"),
     *("findings_rows.ROWS", "findings_rows.RULE_ROWS", "findings_rows.DRAFT_ROWS", "findings_rows.XML_ROWS", "install_rows.ROWS"),
     *("findings_rows.WITH_ROWS", "findings_rows.TOLD_ROWS", "findings_rows.GRAMMAR_ROWS", "published_rows.ROWS"),
@@ -46,14 +46,13 @@ LISTS = (
 NUMBERS = (
     *("broken_input.COUNT", "refused_sessions.FIRST", "refused_sessions.SAMPLE", "refused_threads.THREADS", "shaken_threads.COUNT"),
     *(f"random_texts.COUNTS.{encoding}" for encoding in ("utf-8", "utf-16", "utf-32")),
-    *("replayed_typing.EDITS", "random_drafts.COUNT", "published_rows.COUNT"),
+    *("replayed_typing.EDITS", "random_drafts.COUNT", "published_rows.COUNT", "edited_texts.TEXTS", "edited_texts.EDITS"),
 )
 # The same of tests in crates: the file, and how the number stands there
 LOOPS = {
     "worked_sessions.random.SESSIONS": ("crates/worked_sessions/src/random/replies.rt", r"(?m)^const SESSIONS: u64 = ([0-9_]+);"),
     "worked_sessions.random.MESSAGES": ("crates/worked_sessions/src/random/replies.rt", r"(?m)^const MESSAGES: usize = ([0-9_]+);"),
     "worked_grammars.random": ("crates/worked_grammars/src/random.rt", r"(?m)^    for _ in 0\.\.([0-9_]+) \{"),
-    "worked_grammars.seams": ("crates/worked_grammars/src/lines/seams.rt", r"(?m)^    for round in 0\.\.([0-9_]+)u32 \{"),
 }
 # The tools of rows that try the gate's own tools
 OWN_ROWS = ("source_rows", "reference_rows", "comments_rows", "verdict_rows", "counts_rows", "documents_rows", "stage_rows")

@@ -1,9 +1,5 @@
 #!/usr/bin/env python3
-"""Checks that the grammars which the tests read are those of examples/, byte for byte, and that the pattern of the recipe in
-examples/github reads each line of findings that the worked rows have.
-
-Tests can't read files, so this source has each grammar as a constant RFC_N. Those of examples/known/ are read by no test.
-"""
+"""Checks that the pattern of the recipe in examples/github reads each line of findings that the worked rows have."""
 import json
 import os
 import re
@@ -12,7 +8,6 @@ import sys
 import findings_rows
 from workspace import TOP
 
-SOURCE = "crates/example_grammars/src/lib.rt"
 MATCHER = ("examples", "github", "matcher.json")
 FINDING = re.compile(r"\d+:\d+: (error|warning): ")
 DRAFT = "a draft: \u00e9.md"
@@ -21,15 +16,6 @@ DRAFT = "a draft: \u00e9.md"
 def read(*path):
     with open(os.path.join(TOP, *path), encoding="utf-8") as file:
         return file.read()
-
-
-def other_grammars():
-    """What differs between the grammars of the tests and those of examples/."""
-    constants = dict(re.findall(r'const RFC_(\d+): &str =\s*r##"(.*?)"##;', read(SOURCE), re.S))
-    names = [it for it in os.listdir(os.path.join(TOP, "examples")) if it.endswith(".abnf")]
-    files = {name[3:-5]: read("examples", name) for name in names}
-    wrong = sorted(number for number in files.keys() | constants.keys() if files.get(number) != constants.get(number))
-    return [f"examples/rfc{number}.abnf and RFC_{number} in {SOURCE} differ" for number in wrong]
 
 
 def strings(value):
@@ -56,7 +42,7 @@ def unread_lines():
 
 
 def main():
-    wrong = [*other_grammars(), *unread_lines()]
+    wrong = [*unread_lines()]
     for it in wrong:
         print(it, file=sys.stderr)
     sys.exit(1 if wrong else 0)

@@ -75,13 +75,18 @@ def failing_devices_of(counts):
     return counts["rows abnf_ls failing_devices"] - 1
 
 
+def edited_texts_of(counts):
+    # (two long texts have so many, and so many short ones stand in each encoding)
+    return 2 * counts["cases edited_texts.EDITS"], 3 * counts["cases edited_texts.TEXTS"]
+
+
 def gate_took(_counts):
     """The minutes of the gate's last measured run, and on how many processors it was."""
     minutes, processors = TOOK.search(page(GATE)).groups()
     return round(float(minutes)), int(processors)
 
 
-SESSIONS, REPLIES = (total_of(*(f"list {it}_rows.{name}" for it in ("session", "encoding"))) for name in ("SESSIONS", "REPLIES"))
+SESSIONS, REPLIES = (total_of(*(f"list {it}_rows.{name}" for it in ("session", "encoding", "text"))) for name in ("SESSIONS", "REPLIES"))
 REFUSED_TO_THREADS = total_of("cases refused_sessions.FIRST", "cases refused_sessions.SAMPLE")
 RANDOM_TEXTS = total_of(*(f"cases random_texts.COUNTS.{it}" for it in ("utf-8", "utf-16", "utf-32")))
 KNOWN_FILES = counts_of("list findings_rows.WITH_ROWS", "list findings_rows.GRAMMAR_ROWS")
@@ -116,8 +121,7 @@ FIGURES = (
     Figure(TESTING, "| random sessions | {} of {} messages |", counts_of("cases worked_sessions.random.SESSIONS", "cases worked_sessions.random.MESSAGES")),
     Figure(TESTING, "| sessions with shaken threads | {} |", count_of("cases shaken_threads.COUNT")),
     Figure(TESTING, "| random grammars | {} |", count_of("cases worked_grammars.random")),
-    # (two tests each make so many)
-    Figure(TESTING, "| random edits of long texts | {} |", lambda counts: 2 * counts["cases worked_grammars.seams"]),
+    Figure(TESTING, "| random edits of long texts | {}, short texts {} |", edited_texts_of),
 )
 
 

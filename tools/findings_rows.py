@@ -1098,6 +1098,20 @@ GRAMMAR_ROWS = (
     ("a.md", "# A title\n\n```abnf\n  a = b\n   / c\n```\ntext\n~~~abnf\nd = ?\n~~~\n", "a = b\n / c\n\nd = ?\n\n"),
     ("a.xml", '<rfc><artwork type="abnf">\n  a = &lt;b&gt;\n</artwork></rfc>', "\na = <b>\n\n"),
     ("a.txt", "1. Rules\n\n  a = b\n\f\nRFC 1\n   / c\n\nx = 5 apples\n\nd = e\n", "a = b\n / c\n\nd = e\n\n"),
+    # each line end stays as it is
+    ("a.abnf", "a\r\n\nb\U0001f600\rc\r\n", "a\r\n\nb\U0001f600\rc\r\n"),
+)
+
+# Of the grammars of standards how many rules each has, what is printed of the last one, and of which no string is printed, as they lead to prose: in
+# RFC 3986 the empty path is prose.
+STANDARDS = (
+    ("rfc3339.abnf", 13, "20:1: date-time: shortest length 20: 0000-00-00T00:00:00Z", []),
+    (
+        *("rfc3986.abnf", 36, "82:1: sub-delims: shortest length 1: !"),
+        ["URI", "hier-part", "URI-reference", "absolute-URI", "relative-ref", "relative-part", "path", "path-empty"],
+    ),
+    ("rfc5234.abnf", 37, "113:1: WSP: shortest length 1:  ", []),
+    ("rfc8259.abnf", 30, "76:1: unescaped: shortest length 1:  ", []),
 )
 
 
@@ -1426,6 +1440,12 @@ def example_cases(program):
     files = sorted(os.path.join(folder, it) for folder in folders for it in os.listdir(folder) if it.endswith(".abnf") and it not in faulty)
     for some in (files, *([it] for it in files)):
         yield f"examples, {len(some)} of them", outcome(program, None, ["--strict", *some]), (0, b"", b"")
+    for name, count, last, unknown in STANDARDS:
+        file = os.path.join(examples, name)
+        status, said, wrote = outcome(program, None, ["--rules", file])
+        told = [line.removeprefix(f"{file}:") for line in wrote.decode().splitlines()]
+        without = [line.split(": ")[1] for line in told if ": shortest length " not in line]
+        yield f"the rules of {name}", (status, said, len(told), told[-1:], without), (0, b"", count, [last], unknown)
 
 
 def file_cases(program, files):

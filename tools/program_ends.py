@@ -23,6 +23,7 @@ import counts
 import cut_pipes
 import dist_rows
 import draft_sessions
+import edited_texts
 import encoding_rows
 import failing_devices
 import findings_rows
@@ -40,6 +41,7 @@ import replayed_typing
 import rows
 import session_rows
 import shaken_threads
+import text_rows
 import threaded_sessions
 from runs import outcome, frame, frames
 
@@ -168,11 +170,13 @@ TOOLS = {
     "served_plainly": (
         ("session_rows", functools.partial(session_cases, session_rows)),
         ("encoding_rows", functools.partial(session_cases, encoding_rows)),
+        ("text_rows", functools.partial(session_cases, text_rows)),
         ("program_ends", frame_cases),
         ("program_ends", long_cases),
         ("refused_commands", refused_commands.session_cases),
         ("failing_devices", failing_devices.plain_cases),
         ("random_texts", random_texts.cases),
+        ("edited_texts", edited_texts.cases),
         ("replayed_typing", replayed_typing.plain_cases),
         ("kept_rows", kept_rows.plain_cases),
     ),

@@ -1,12 +1,11 @@
-//! Worked grammars: the tests of `abnf_names`, `abnf_places`, `abnf_cert` and `abnf_least`, and the grammars of `examples/` with their shortest sentences.
+//! Worked grammars: what no program's output shows of `ls_text`, `abnf_syntax`, `abnf_names` and `abnf_places`, and random
+//! grammars for `abnf_cert` and `abnf_least`.
 //!
 //! They stand above the crates that they test, since a crate with tests is proved twice, and those take long.
 #![tactic(auto)]
 
 #[cfg(test)]
 mod check;
-#[cfg(test)]
-mod examples;
 #[cfg(test)]
 mod grammars;
 #[cfg(test)]
@@ -22,10 +21,6 @@ mod random;
 #[cfg(test)]
 mod rounds;
 #[cfg(test)]
-mod sentences;
-#[cfg(test)]
 mod sweeps;
-#[cfg(test)]
-mod texts;
 #[cfg(test)]
 mod wrong;
