@@ -95,6 +95,8 @@ EXAMPLES = (
     (HUGE, "f", shown(1, "z"), None),
     (HUGE, "h", shown(0, ""), None),
     ('a = 4294967295""', "a", shown(0, ""), None),
+    (TWO, "B", shown(1, "x"), lines(*TWO_LINES)),
+    ("a = <text>", "a", NOT_KNOWN, lines("0 -", "1 -")),
 )
 
 YES = (0, b"", b"yes\n")
@@ -116,6 +118,8 @@ CHECKS = (
     (TWO, lines("0 18446744073709551616 0 1", *TWO_LINES[1:]), fault("3 NumberTooLarge")),
     ("a = a", lines("0 0 18446744073709551615 0", "1 0 18446744073709551615 0"), NO),
     ("a = a", lines("0 -", "1 -"), YES),
+    # behind the first lines of an example
+    (TWO, "shortest length 1\n\n" + lines(*TWO_LINES), YES),
 )
 
 
