@@ -1,6 +1,7 @@
 """Worked sessions: the bodies that a client sends, the bodies that the server writes, and the status at the end.
 
-All bodies are written out as they stand in the stream. FRAMES has streams whose frames are broken, with the line that names the fault.
+All bodies are written out as they stand in the stream. FRAMES has streams whose frames are broken, with the line that names the fault, and
+STREAMS streams from the first byte on.
 """
 import json
 
