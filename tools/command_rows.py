@@ -159,6 +159,8 @@ EXAMPLES = (
     (NOWHERE, "r0", NOTHING, lines(*(f"{n} -" for n in range(2 * MANY)))),
     (NOWHERE, f"r{MANY}", "undefined", None),
     *((text, rule, wanted, None) for text, all_wanted in ALL_EXAMPLES for rule, wanted in all_wanted),
+    (TWO, "B", shown(1, "x"), lines(*TWO_LINES)),
+    ("a = <text>", "a", NOT_KNOWN, lines("0 -", "1 -")),
 )
 
 YES = (0, b"", b"yes\n")
@@ -187,6 +189,8 @@ CHECKS = (
     ("a = a", "0 -\n1 -", fault("1 BadLine")),
     ("a = a", "0 -\r\n1 -\r\n", fault("1 BadLine")),
     ("a = a", lines("0 -", "5 18446744073709551616 0 1"), fault("2 OutOfOrder")),
+    # behind the first lines of an example
+    (TWO, "shortest length 1\n\n" + lines(*TWO_LINES), YES),
 )
 
 

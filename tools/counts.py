@@ -38,7 +38,7 @@ HEAD = f"# What the gate must find, neither more nor less. `{RAISE}` puts higher
 # Lists of worked rows, and numbers of cases that are made in a loop
 LISTS = (
     *(f"{module}.{name}" for module in ("session_rows", "encoding_rows", "text_rows") for name in ("SESSIONS", "REPLIES")),
-    *("session_rows.FRAMES", "command_rows.EXAMPLES", "command_rows.CHECKS"),
+    *("session_rows.FRAMES", "session_rows.STREAMS", "command_rows.EXAMPLES", "command_rows.CHECKS", "failing_devices.WORKED"),
     *("findings_rows.ROWS", "findings_rows.RULE_ROWS", "findings_rows.DRAFT_ROWS", "findings_rows.XML_ROWS", "install_rows.ROWS"),
     *("findings_rows.WITH_ROWS", "findings_rows.TOLD_ROWS", "findings_rows.GRAMMAR_ROWS", "published_rows.ROWS"),
     "typed_edits.KINDS",

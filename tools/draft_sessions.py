@@ -52,8 +52,10 @@ ASKED, AT_ONCE, SECONDS = 6, 20, 20
 OUTSIDE_OF_LINES = re.compile("(?:(?<=[\r\n])|\\A)[ \t>]+|[`~]{3,}.*|<[^<>]*>|&[^;\\s]*;|\\]\\]>")
 
 
-def initialize(encoding, options=None):
-    params = {"capabilities": {"general": {"positionEncodings": [encoding]}}, **({} if options is None else {"initializationOptions": options})}
+def initialize(encoding, options=None, **beside):
+    """An initialize of a client that knows this encoding, with these initializationOptions, if it has any, and these parameters beside."""
+    has_options = {} if options is None else {"initializationOptions": options}
+    params = {"capabilities": {"general": {"positionEncodings": [encoding]}}, **has_options, **beside}
     return replayed_typing.body_of(id=1, method="initialize", params=params)
 
 
@@ -346,11 +348,13 @@ NOT_ASKING = (
     *(None, {}, True, [True], {"Drafts": True}, {"x": {"drafts": True}}),
     *({"drafts": it} for it in (False, "true", 1, None, {})),
 )
+# Parameters beside the capabilities by which nothing is asked for either
+NOT_ASKING_BESIDE = ({"initializationOptions": None}, {"drafts": True})
 
 
-def outlines(program, options):
-    """The names in the outline of each of these documents, where the client has these initializationOptions."""
-    turns = [(initialize("utf-8", options), 1)]
+def outlines(program, options, **beside):
+    """The names in the outline of each of these documents, where the client has these initializationOptions and parameters beside."""
+    turns = [(initialize("utf-8", options, **beside), 1)]
     for number, (uri, language, _) in enumerate(OPENED, 10):
         document = {"uri": uri, "version": 1, "text": IN_EACH, **({} if language is NO_LANGUAGE else {"languageId": language})}
         asked = replayed_typing.body_of(id=number, method="textDocument/documentSymbol", params={"textDocument": {"uri": uri}})
@@ -395,6 +399,8 @@ def row_cases(program, count, seed):
         yield f"{uri}, {'no language' if language is NO_LANGUAGE else repr(language)}", found, wanted
     for options in NOT_ASKING:
         yield f"the same with {json.dumps(options)}", outlines(program, options), [ABNF] * len(OPENED), len(OPENED)
+    for beside in NOT_ASKING_BESIDE:
+        yield f"the same with the parameters {json.dumps(beside)}", outlines(program, None, **beside), [ABNF] * len(OPENED), len(OPENED)
     texts = [markdown(random.Random(f"rows {seed} {number}")) for number in range(count)]
     differing = [text for text in texts if without_drafts(program, text, "markdown") != without_drafts(program, text, "abnf")]
     yield f"{count} texts in Markdown that are no drafts", differing[:2], [], count

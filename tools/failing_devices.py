@@ -8,6 +8,8 @@ and of what was heard before it the replies may have been written: each whole an
 written is as many bytes as were taken: whole frames of such replies, and a front of one more. A read that is interrupted is made again, and a
 write that takes one byte is followed by others: nothing else is seen of these. On one thread, by PLAIN, the bytes are known to the last. --all reads
 the input byte by byte, and lets each write of one byte fail.
+
+At last there are rows by value, on one thread: a short session whose devices fail, and worked streams that come byte by byte.
 """
 import collections
 import itertools
@@ -17,7 +19,7 @@ import sys
 import rows
 import runs
 from refused_sessions import CONTEXT, asks, changes, key_of
-from session_rows import EXIT, INITIALIZE, INITIALIZED, LIST, at, edit, named, opened, ranged
+from session_rows import CAPABILITIES, DOWN, EXIT, INITIALIZE, INITIALIZED, LIST, SHUTDOWN, STREAMS, at, edit, ends_of, named, opened, ranged
 
 # The input comes in pieces of so many bytes.
 PIECE = 8
@@ -221,6 +223,35 @@ def all_cases(program, piece, step, fault_in):
         yield f"{len(some)} runs with {said}", [it for it in some if it[1]][:3], [], len(some)
 
 
+# A short session: frames of 80, 66 and 55 bytes, answered by frames of 503 and 60
+SHORT = runs.frames(('{"jsonrpc":"2.0","id":1,"method":"initialize","params":{}}', SHUTDOWN, EXIT))
+FIRST, BOTH = runs.frames([CAPABILITIES]), runs.frames([CAPABILITIES, DOWN])
+assert (len(SHORT), len(FIRST), len(BOTH)) == (201, 503, 563)
+# What is written of it, and how it ends. Where a read of ten bytes fails, what was whole in those before it has been answered.
+WORKED = (
+    *(((*READ_FAILED, b""), {"failed_read": call, "most_read": 10}) for call in range(1, 9)),
+    *(((*READ_FAILED, FIRST), {"failed_read": call, "most_read": 10}) for call in range(9, 16)),
+    *(((*READ_FAILED, BOTH), {"failed_read": call, "most_read": 10}) for call in range(16, 22)),
+    # each other read is interrupted
+    ((*CLEAN, BOTH), {"interrupted_read": 0, "most_read": 7, "most_write": 5}),
+    # a write takes a hundred bytes
+    *(
+        ((*WRITE_FAILED, BOTH[:taken]), {"failed_write": call, "most_write": 100})
+        for call, taken in enumerate((0, 100, 200, 300, 400, 500, 503), 1)
+    ),
+)
+
+
+def worked_cases(program):
+    """The rows by value."""
+    with rows.library(LIBRARY) as made:
+        for wanted, at_calls in WORKED:
+            yield f"a short session with {at_calls}", runs.outcome(program, SHORT, env=rows.in_front(made, **at_calls)), wanted
+        for stream, bodies, fault in STREAMS:
+            found = runs.outcome(program, stream, env=rows.in_front(made, most_read=1))
+            yield f"the stream {stream[:60]}, byte by byte", found, ends_of(bodies, fault)
+
+
 def cases(program, piece=PIECE, step=STEP):
     """On several threads, where replies may come in any order."""
     yield from all_cases(program, piece, step, Fault.fault_on_threads)
@@ -229,6 +260,7 @@ def cases(program, piece=PIECE, step=STEP):
 def plain_cases(program, piece=PIECE, step=STEP):
     """On one thread."""
     yield from all_cases(program, piece, step, Fault.fault_on_one_thread)
+    yield from worked_cases(program)
 
 
 def main(words):

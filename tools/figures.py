@@ -100,6 +100,7 @@ FIGURES = (
     Figure(TESTING, "| worked sessions, byte for byte | {} |", SESSIONS),
     Figure(TESTING, "| worked replies | {} |", REPLIES),
     Figure(TESTING, "| streams with a broken frame | {} |", count_of("list session_rows.FRAMES")),
+    Figure(TESTING, "| streams from the first byte on | {} |", count_of("list session_rows.STREAMS")),
     Figure(TESTING, "| examples, each with its check | {} |", count_of("list command_rows.EXAMPLES")),
     Figure(TESTING, "| checks of certificates | {} |", count_of("list command_rows.CHECKS")),
     Figure(TESTING, "| texts of `abnf_findings` | {}, of rules {} |", counts_of("list findings_rows.ROWS", "list findings_rows.RULE_ROWS")),

@@ -106,19 +106,31 @@ def session_cases(worked, program):
 
 
 def frame_cases(program):
-    """Streams whose frames are broken behind a whole one, and a header part of another form."""
+    """Streams whose frames are broken behind a whole one, a header part of another form, and streams from the first byte on."""
     before, answered = frames([session_rows.INITIALIZE]), frames([session_rows.CAPABILITIES])
     for stream, fault in session_rows.FRAMES:
         line = f"framing fault {fault}\n".encode()
         yield f"{fault}: {stream[:60]}", outcome(program, before + stream), (2, line, answered)
     other_form = outcome(program, b"content-length:  002 \r\n\r\n{}")
     yield "a header part of another form", other_form, (1, b"", frames([session_rows.INVALID_REQUEST]))
+    for stream, bodies, fault in session_rows.STREAMS:
+        yield f"the stream {stream[:60]}", outcome(program, stream), session_rows.ends_of(bodies, fault)
 
 
 def file_cases(program):
     """Files that can't be read, and files that are no texts: the grammar's come first."""
     with rows.files() as files:
         yield from file_rows(program, files)
+    with rows.files() as files:
+        yield from name_rows(program, files)
+
+
+def name_rows(program, files):
+    """A file in the folder where the program works: one that isn't there, and one that isn't UTF-8."""
+    arguments, folder = ["example", "g.abnf", "a"], files.folder
+    yield "no file, by its name alone", outcome(program, None, arguments, folder=folder), (2, b"cannot read g.abnf\n", b"")
+    files.written("g.abnf", b"\xff")
+    yield "a file that isn't UTF-8, by its name alone", outcome(program, None, arguments, folder=folder), (2, b"not a text: g.abnf\n", b"")
 
 
 def file_rows(program, files):

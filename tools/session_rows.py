@@ -1,11 +1,14 @@
 """Worked sessions: the bodies that a client sends, the bodies that the server writes, and the status at the end.
 
-All bodies are written out as they stand in the stream. FRAMES has streams whose frames are broken, with the line that names the fault.
+All bodies are written out as they stand in the stream. FRAMES has streams whose frames are broken, with the line that names the fault, and
+STREAMS streams from the first byte on.
 """
 import json
 import re
 
 from workspace import TOP, text_of
+
+from runs import frames
 
 INITIALIZE = '{"jsonrpc":"2.0","id":1,"method":"initialize","params":{"capabilities":{}}}'
 INITIALIZED = '{"jsonrpc":"2.0","method":"initialized","params":{}}'
@@ -1066,9 +1069,52 @@ NO_DOCUMENT = (
     *about_no_document("semanticTokens/full", ""),
 )
 
-SESSIONS = LIVES + FINDINGS + TYPED + REPLACED
+# A document with the version 7, as it is opened and closed without more members than must be there
+OPEN_NAME = '{"method":"textDocument/didOpen","params":{"textDocument":{"uri":"file:///g","version":7,"text":"a"}}}'
+CLOSE_NAME = '{"method":"textDocument/didClose","params":{"textDocument":{"uri":"file:///g"}}}'
+ASK_NAME = asked("documentSymbol", "")
+
+HEARD = (
+    # a request, a notice, a response and no message (JSON-RPC 2.0, sections 4 and 5)
+    (
+        "a body of each kind",
+        [INITIALIZE, '{"id":"x","method":"m","params":true}', '{"method":"m"}', '{"id":1,"error":{}}', ""],
+        [CAPABILITIES, refused(-32601, "method not found", '"x"'), PARSE_ERROR],
+        1,
+    ),
+    # an object is no id: it stands among NO_IDS
+    *(
+        (f"a shutdown with the id {said}", [INITIALIZE, f'{{"id":{said},"method":"shutdown"}}'], [CAPABILITIES, DOWN.replace("3", said)], 1)
+        for said in ("-5", "7", '"1"')
+    ),
+    ("a hover in a document that was never open", [INITIALIZE, asked("hover", at(0, 0))], [CAPABILITIES, NOT_OPEN], 1),
+    ("nothing is heard after an exit", [INITIALIZE, EXIT, INITIALIZE], [CAPABILITIES], 1),
+    ("an opening before initialize", [OPEN_NAME, LINKS, ASK_NAME], [CAPABILITIES, NOT_OPEN], 1),
+    # a name alone is no rule (RFC 5234, section 4)
+    (
+        "a document that is closed before it is open, and after",
+        [LINKS, CLOSE_NAME, OPEN_NAME, CLOSE_NAME, ASK_NAME],
+        [CAPABILITIES, published((0, 1, 1, 1, "syntax", '"=" or "=/" expected'), label=7), NOT_OPEN],
+        1,
+    ),
+)
+
+OUTLINES = (
+    # a rule of two lines, a block without a head, a second definition, and a faulty block with a head
+    replied(
+        "documentSymbol",
+        'a = "x" ; c\n  / b\n"y"\nA =/ "z"\nb = ?\n',
+        "",
+        answered(
+            '[{"kind":12,"name":"a","range":{"end":{"character":5,"line":1},"start":{"character":0,"line":0}},'
+            f'"selectionRange":{span(0, 0, 1)}}},{symbol("A", 3, 8)},{symbol("b", 4, 5)}]'
+        ),
+    ),
+)
+
+SESSIONS = LIVES + FINDINGS + TYPED + REPLACED + HEARD
 # What these are answered with beside what is published; the last number counts the versions of the document
-REPLIES = EDITS + DEFINITIONS + HOVERS + REFERENCES + RENAMES + MADE + ACTIONS + TOKENS + NO_DOCUMENT
+REPLIES = EDITS + DEFINITIONS + HOVERS + REFERENCES + RENAMES + MADE + ACTIONS + TOKENS + NO_DOCUMENT + OUTLINES
 
 # What stands in the stream behind a whole frame, and the line that names its fault
 FRAMES = (
@@ -1081,3 +1127,39 @@ FRAMES = (
     (b"a" * 4096, "1 HeaderTooLong"),
     (b"Content-Length: 02\r\n\r\n{", "7 Truncated"),
 )
+
+# Streams from the first byte on, what they are answered with, and the fault with which they end, if one does
+STREAMS = (
+    # a frame with its length as it may be written, and fronts of it
+    (b"", (), None),
+    (b"Content-Length: 0", (), "7 Truncated"),
+    (b"Content-Length: 02\r\n\r\n{", (), "7 Truncated"),
+    (b"Content-Length: 02\r\n\r\n{}", (INVALID_REQUEST,), None),
+    (b"Content-Length: 2\r\n\r\n{", (), "7 Truncated"),
+    # other forms of header parts
+    (b"content-length:  002 \r\n\r\nabX-Other: y\r\nContent-Length:0\r\n\r\n", (PARSE_ERROR, PARSE_ERROR), None),
+    # the largest content
+    (b"Content-Length: 16777216\r\n\r\n", (), "7 Truncated"),
+    # frames before a fault, and one behind it, which isn't heard
+    (
+        b"Content-Length: 1\r\n\r\naContent-Length: 0\r\n\r\nContent-Type: x\r\n\r\nContent-Length: 0\r\n\r\n",
+        (PARSE_ERROR, PARSE_ERROR),
+        "3 NoLength",
+    ),
+    # header parts alone
+    (b"Content-Type: x\r\n\r\n", (), "3 NoLength"),
+    (b"Content-Length: -1\r\n\r\n", (), "5 BadLength"),
+    (b"Content-Length: 16777217\r\n\r\n", (), "6 TooLarge"),
+    (b"Content-Length 2\r\n\r\n", (), "2 BadHeader"),
+    (b"Content-Length: 2\n\r\n", (), "2 BadHeader"),
+    (b"Content-Length: 2\r\nContent-Length: 2\r\n\r\n", (), "4 TwoLengths"),
+    # the largest header part, of 4,096 bytes, and one that doesn't end there
+    (b"Content-Length: 0\r\na:" + b" " * 4071 + b"\r\n\r\n", (PARSE_ERROR,), None),
+    (b"a" * 4096, (), "1 HeaderTooLong"),
+)
+assert len(STREAMS[-2][0]) == 4096
+
+
+def ends_of(bodies, fault):
+    """How a run on a stream ends that is answered with these bodies: its status, its line and what it has written."""
+    return 2 if fault else 1, f"framing fault {fault}\n".encode() if fault else b"", frames(bodies)

@@ -6,7 +6,7 @@ use super::bodies::{
     are_frames_of, frames, sorted,
 };
 use super::devices::{Bytes, Noting};
-use ls_server::{ServeFault, Status};
+use ls_server::{ServeFault, Status, serve_limited};
 use ls_threads::{Gate, Limits, Served, serve_threads, serve_with_limits};
 use std::alloc::Global;
 use std::sync::atomic::AtomicU64;
@@ -136,5 +136,19 @@ fn a_write_fails(rt: HostRuntime) -> Result<(), Fail> {
     }
     let left = serves(&rt, alloc, frames(alloc, &ASKED)?, 2, (0, 7), &Open)?;
     assert!(rt; left.answer == Ok(Status::Unclean));
+    Ok(())
+}
+
+// On one thread, where the first read is one too many.
+#[test]
+fn no_read_is_allowed(rt: HostRuntime) -> Result<(), Fail> {
+    let alloc = rt.alloc();
+    let mut source = Bytes::new(frames(alloc, &["{}"])?, 0);
+    let seen = Arc::new(alloc, AtomicU64::new(0))?;
+    let mut sink = Noting::new(alloc, b"none of these bytes", seen, 0)?;
+    let answer = serve_limited(alloc, &mut source, &mut sink, 1);
+    let bytes = sink.into_bytes();
+    assert!(rt; answer == Err(ServeFault::Read));
+    assert!(rt; bytes.is_empty());
     Ok(())
 }

@@ -1,7 +1,7 @@
 //! A session that is full, by a limit of a few events and unsent replies: nothing is heard, taken or run any more, and what is unsent is sent.
 ghost use Rattle.std.specs.Prelude.{◌<◌, ◌≤◌};
 
-use super::failing::{CAPABILITIES, INITIALIZE, frames};
+use crate::bodies::{CAPABILITIES, INITIALIZE, frames};
 use ls_desk::Counts;
 use ls_session::Status;
 use ls_steps::Conversation;
