@@ -60,7 +60,7 @@ fn tells(alloc: Global, grammar: &Grammar<'_>, want: &str) -> Result<bool, Alloc
 }
 
 /// Whether just this is found in a text.
-pub(crate) fn has_findings(alloc: Global, text: &Snapshot, want: &str) -> Result<bool, AllocError> {
+fn has_findings(alloc: Global, text: &Snapshot, want: &str) -> Result<bool, AllocError> {
     let grammar = Grammar::of(alloc, text)?;
     let tells = tells(alloc, &grammar, want);
     drop(grammar);

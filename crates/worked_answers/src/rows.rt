@@ -1,4 +1,4 @@
-//! Texts with all that is found in them by a certificate and without one, written out by hand. (No program asks for a certificate here.)
+//! Texts with all that is found in them by a certificate and without one, written out by hand: no program finds anything by a certificate.
 
 use super::found::finds;
 use std::test::Fail;
